@@ -33,7 +33,8 @@ SoFar options h told text end is_first = (vs : List Verdict) × IsSoFar options 
 -- what is left is what those before it have left
 pub left_by : (r left : Recording) (f g : ℕ → Bool) → ((t : ℕ) → f t ≡ g t) → IsLeft r f left → IsLeft r g left
 left_by r left f g same l = record {
-  transactions = λ t h. subst (λ b. transaction_at left t ≡ without b (transaction_at r t)) (same t) (l.transactions t h);
+  transactions = λ t h. subst (λ b. transaction_at left t ≡ without b (transaction_at r t)) (same t)
+      (l.transactions t h);
   count = l.count;
   ops = l.ops;
   elements = l.elements;
@@ -48,7 +49,8 @@ ends_with [] v end e = refl
 ends_with (w ∷ ws) v end e = e
 
 -- a verdict that is of what is left
-pub is_next : (options : ImportOptions) (h : History) (told : List Bool) (text : List ℕ) (end : ImportEnd) (is_first : Bool)
+pub is_next : (options : ImportOptions) (h : History) (told : List Bool) (text : List ℕ) (end : ImportEnd)
+    (is_first : Bool)
     (vs : List Verdict) (left : Recording) (v : Verdict) → IsSoFar options h told text end is_first vs
     → IsLeft h.recording (λ t. get_or told t false) left → IsVerdict left options.orders v
     → IsNext h.recording options.orders vs v
@@ -60,14 +62,16 @@ or_true true = refl
 or_true false = refl
 
 -- the text with one verdict more
-pub said_with : {options : ImportOptions} {h : History} {told : List Bool} {text : List ℕ} {end : ImportEnd} {is_first : Bool}
+pub said_with : {options : ImportOptions} {h : History} {told : List Bool} {text : List ℕ} {end : ImportEnd}
+    {is_first : Bool}
     {vs : List Verdict} (v : Verdict) (one more : List ℕ) → IsSoFar options h told text end is_first vs
     → IsOneOf options h is_first v one → more ≡ text ++ one → IsTextOfAll options h (v ∷ vs) more
 said_with {options} {h} {told} {text} v one more s o e =
     (text, one, s.said, subst (λ b. IsOneOf options h b v one) s.first o, e)
 
 -- the end with one verdict more
-pub end_so : {options : ImportOptions} {h : History} {told : List Bool} {text : List ℕ} {end : ImportEnd} {is_first : Bool}
+pub end_so : {options : ImportOptions} {h : History} {told : List Bool} {text : List ℕ} {end : ImportEnd}
+    {is_first : Bool}
     {vs : List Verdict} (v : Verdict) (new : ImportEnd) → IsSoFar options h told text end is_first vs
     → new ≡ cond is_first (end_of v) end → new ≡ end_of_all v vs
 end_so {end = end} {vs = vs} v new s e =
@@ -86,10 +90,19 @@ done options h told after text more end new is_first left v (vs, s) l verdict (o
     let is : get_or told t false ≡ (get_or told t false || tells h.recording v t) =
     subst (λ bs. get_or bs t false ≡ (get_or told t false || tells h.recording v t)) same (noted t) in
     sym (s.told_of t) ∙ is ∙ ap (λ b. get_or told t false || b) told_of ∙ or_true (get_or told t false)
-    in (v, vs, s.next, is_next options h told text end is_first vs left v s l verdict, none, said_with v one more s o e, end_so v new s ends)
+    in (
+      v,
+      vs,
+      s.next,
+      is_next options h told text end is_first vs left v s l verdict,
+      none,
+      said_with v one more s o e,
+      end_so v new s ends,
+    )
 
 -- one that tells of one more is followed by what comes of what is left then
-pub more_so : (options : ImportOptions) (h : History) (told after : List Bool) (text more : List ℕ) (end new : ImportEnd)
+pub more_so : (options : ImportOptions) (h : History) (told after : List Bool) (text more : List ℕ)
+    (end new : ImportEnd)
     (is_first : Bool) (left : Recording) (v : Verdict) → SoFar options h told text end is_first
     → IsLeft h.recording (λ t. get_or told t false) left → IsVerdict left options.orders v
     → ((one : List ℕ) × IsOneOf options h is_first v one × (more ≡ text ++ one))
@@ -97,17 +110,22 @@ pub more_so : (options : ImportOptions) (h : History) (told after : List Bool) (
     → ((t : ℕ) → get_or after t false ≡ (get_or told t false || tells h.recording v t))
     → ((t : ℕ) × (tells h.recording v t ≡ true) × (get_or told t false ≡ false)) → length after ≡ length told
     → SoFar options h after more new false
-more_so options h told after text more end new is_first left v (vs, s) l verdict (one, o, e) ends noted (t, tells_of, f) count = (
-  v ∷ vs,
-  record {
-    next = (s.next, is_next options h told text end is_first vs left v s l verdict, (t, tells_of, sym (s.told_of t) ∙ f));
-    told_of = λ u. noted u ∙ ap (λ b. b || tells h.recording v u) (s.told_of u);
-    count = count ∙ s.count;
-    said = said_with v one more s o e;
-    first = refl;
-    ends = end_so v new s ends;
-  },
-)
+more_so options h told after text more end new is_first left v (vs, s) l verdict (one, o, e) ends noted
+    (t, tells_of, f) count = (
+      v ∷ vs,
+      record {
+        next = (
+          s.next,
+          is_next options h told text end is_first vs left v s l verdict,
+          (t, tells_of, sym (s.told_of t) ∙ f),
+        );
+        told_of = λ u. noted u ∙ ap (λ b. b || tells h.recording v u) (s.told_of u);
+        count = count ∙ s.count;
+        said = said_with v one more s o e;
+        first = refl;
+        ends = end_so v new s ends;
+      },
+    )
 
 -- before the first verdict
 pub nothing_told : (options : ImportOptions) (h : History) (told : List Bool) (text : List ℕ) (end : ImportEnd)

@@ -9,7 +9,7 @@ ghost use Rattle.tx_recording.specs.Recordings.{IsRecording};
 ghost use Rattle.tx_answers.specs.Words.{verdict_text};
 ghost use Rattle.tx_answers.specs.Traces.{IsTrace};
 ghost use Rattle.tx_answers.specs.Texts.{end_of, cycle_text, IsTextOf};
-ghost use Rattle.tx_answers.specs.Answers.{IsOne, IsSaid, IsAnswer, Ends, Breaks};
+ghost use Rattle.tx_answers.specs.Answers.{IsOne, IsSaid, IsAnswer, WritesAnswer, Breaks};
 
 use crate::all::judged_to_end;
 use crate::drawing::drawing;
@@ -216,7 +216,7 @@ pub fn import<R: BufRead, W: Write>(
     // Not broken off, it has written what is told of a verdict on the recording of the lines, or of
     // the first line that says no transaction, and nothing else.
     ensures ends { IfOk result (λ answered. IfSome (R.remaining reader.old)
-        (λ input. Ends options input (W.contents writer.old) (W.contents writer.new) answered.end)) }
+        (λ input. WritesAnswer options input (W.contents writer.old) (W.contents writer.new) answered.end)) }
     // Broken off, it has written nothing, or where a write failed a beginning of that.
     ensures breaks { IfErr result (λ broken. IfSome (R.remaining reader.old)
         (λ input. Breaks options input (W.contents writer.old) (W.contents writer.new) broken)) }

@@ -34,7 +34,8 @@ IsKept-prop (Some v) (stored.Put InDefault) = le_prop
 IsKept-prop apart stored.Delete = Unit-prop
 IsKept-prop apart stored.Lock = Unit-prop
 
-pub write_kept : (x : OnKey) → ∥ IsWhole x ∥₁ → (c : ℕ) (rec : CommitRec) → x.write c ≡ Some (Commit rec) → IsKept (x.value rec.start) rec.mutation
+pub write_kept : (x : OnKey) → ∥ IsWhole x ∥₁ → (c : ℕ) (rec : CommitRec) → x.write c ≡ Some (Commit rec)
+    → IsKept (x.value rec.start) rec.mutation
 write_kept x t c rec e = ∥∥₁_elim t (IsKept-prop (x.value rec.start) rec.mutation) (λ w. w.write_kept c rec e)
 
 -- what holds of a result's value, by what is known of it
@@ -62,5 +63,8 @@ on_err (Ok x) P Q step p = tt
 on_err (Err e) P Q step p = step p
 
 -- the cells after a change that was made
-pub cells_made : (x y : OnKey) (made done : KeyChange) → ∥ IsWhole x ∥₁ → Applies (cells_of x) made → made ≡ done → y ≡ after x done → cells_of y ≡ changed (cells_of x) made
-cells_made x y made done whole applies is e = ap cells_of e ∙ ap (λ k. cells_of (after x k)) (sym is) ∙ cells_after x made (lock_alone x whole) applies
+pub cells_made : (x y : OnKey) (made done : KeyChange)
+    → ∥ IsWhole x ∥₁ → Applies (cells_of x) made → made ≡ done → y ≡ after x done
+    → cells_of y ≡ changed (cells_of x) made
+cells_made x y made done whole applies is e = ap cells_of e ∙ ap (λ k. cells_of (after x k)) (sym is)
+    ∙ cells_after x made (lock_alone x whole) applies

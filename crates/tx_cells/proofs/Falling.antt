@@ -28,9 +28,11 @@ falls_push [] t fall above = tt
 falls_push (x ∷ []) t fall above = (above.0, tt)
 falls_push (x ∷ y ∷ times) t fall above = (fall.0, falls_push (y ∷ times) t fall.1 above.1)
 
-pub above_push : (times : List ℕ) (bound low t : ℕ) → AreAbove bound times → low ≤ bound → low < t → AreAbove low (times ++ t ∷ [])
+pub above_push : (times : List ℕ) (bound low t : ℕ) → AreAbove bound times → low ≤ bound → low < t
+    → AreAbove low (times ++ t ∷ [])
 above_push [] bound low t above le lt = (lt, tt)
-above_push (x ∷ times) bound low t above le lt = (omega (arith, above.0, le), above_push times bound low t above.1 le lt)
+above_push (x ∷ times) bound low t above le lt =
+    (omega (arith, above.0, le), above_push times bound low t above.1 le lt)
 
 pub above_lower : (times : List ℕ) (bound low : ℕ) → AreAbove bound times → low ≤ bound → AreAbove low times
 above_lower [] bound low above le = tt
@@ -57,7 +59,10 @@ module _ {T : Type 0} (at : T → ℕ) (In : T → Type 0) where
   down_starts bound fits = record {
     falls = tt;
     above = tt;
-    all = λ x. ((λ has. absurd (let lt = has.1 in omega (arith, lt))), (λ is. (let le = fits x is.0 in absurd (omega (arith, le, is.1)))));
+    all = λ x. (
+      (λ has. absurd (let lt = has.1 in omega (arith, lt))),
+      (λ is. (let le = fits x is.0 in absurd (omega (arith, le, is.1)))),
+    );
   }
 
   module _ (bound : ℕ) (items : List T) (times : List ℕ) (down : Down bound items times) where
@@ -68,7 +73,8 @@ module _ {T : Type 0} (at : T → ℕ) (In : T → Type 0) where
       λ is. elim (cases_lt bound (at x)) [ inl lt ↦ (down.all x).1 (is, lt) | inr le ↦ absurd (none x is le) ],
     )
 
-    module _ (y : T) (is : In y) (upto : at y ≤ bound) (nearest : (x : T) → In x → at x ≤ bound → at x ≤ at y) (one : (x : T) → In x → at x ≡ at y → y ≡ x) where
+    module _ (y : T) (is : In y) (upto : at y ≤ bound) (nearest : (x : T) → In x → at x ≤ bound
+        → at x ≤ at y) (one : (x : T) → In x → at x ≡ at y → y ≡ x) where
       pub falls_on : AreFalling (times ++ at y ∷ [])
       falls_on = falls_push times (at y) down.falls (above_lower times bound (at y) down.above upto)
 
@@ -92,7 +98,8 @@ module _ {T : Type 0} (at : T → ℕ) (In : T → Type 0) where
       pub down_on : (low : ℕ) → low ≡ at y - 1 → 0 < at y → Down low (items ++ y ∷ []) (times ++ at y ∷ [])
       down_on low low_is positive = record {
         falls = falls_on;
-        above = above_push times bound low (at y) down.above (omega (arith, low_is, upto)) (omega (arith, low_is, positive));
+        above = above_push times bound low (at y) down.above (omega (arith, low_is, upto))
+            (omega (arith, low_is, positive));
         all = λ x. (
           (λ has. (let w = was_in x has in (w.0, omega (arith, w.1, low_is, positive)))),
           (λ w. found_now x w.0 (let lt = w.1 in omega (arith, lt, low_is, positive))),
@@ -119,13 +126,18 @@ record_of t h = record { at = t; head = h }
 abbrev DownTo : Records → ℕ → List RecordAt → Type 0
 DownTo write bound items = Down (λ (x : RecordAt). x.at) (IsHead write) bound items (times_of items)
 
-module _ (write seen : Records) (same : seen ≡ write) (bound b : ℕ) (b_is : b ≡ bound) (items : List RecordAt) (down : DownTo write bound items) where
-  pub heads_end : ((q : ℕ) → q ≤ b → seen q ≡ None) → (at : ℕ) (head : RecordHead) → Contains items (record_of at head) ↔ (option_map write_head (write at) ≡ Some head)
+module _ (write seen : Records) (same : seen ≡ write) (bound b : ℕ) (b_is : b ≡ bound) (items : List RecordAt)
+    (down : DownTo write bound items) where
+  pub heads_end : ((q : ℕ) → q ≤ b → seen q ≡ None)
+      → (at : ℕ) (head : RecordHead)
+      → Contains items (record_of at head) ↔ (option_map write_head (write at) ≡ Some head)
   heads_end none at head =
       down_ends (λ (x : RecordAt). x.at) (IsHead write) bound items (times_of items) down
-      (λ x is le. none_head (write x.at) x.head (ap (λ (w : Records). w x.at) (sym same) ∙ none x.at (omega (arith, le, b_is))) is) (record_of at head)
+      (λ x is le. none_head (write x.at)
+      x.head (ap (λ (w : Records). w x.at) (sym same) ∙ none x.at (omega (arith, le, b_is))) is) (record_of at head)
 
-  module _ (t : ℕ) (h : RecordHead) (found : (t ≤ b) × (option_map write_head (seen t) ≡ Some h)) (nearest : (q : ℕ) → q ≤ b → IsSome (seen q) → q ≤ t) where
+  module _ (t : ℕ) (h : RecordHead) (found : (t ≤ b) × (option_map write_head (seen t) ≡ Some h)) (nearest : (q : ℕ)
+      → q ≤ b → IsSome (seen q) → q ≤ t) where
     here : IsHead write (record_of t h)
     here = ap (λ (w : Records). option_map write_head (w t)) (sym same) ∙ found.1
 
@@ -133,7 +145,9 @@ module _ (write seen : Records) (same : seen ≡ write) (bound b : ℕ) (b_is : 
     upto = (let le = found.0 in omega (arith, le, b_is))
 
     near : (x : RecordAt) → IsHead write x → x.at ≤ bound → x.at ≤ t
-    near x is le = nearest x.at (omega (arith, le, b_is)) (subst (λ (w : Records). IsSome (w x.at)) (sym same) (head_there (write x.at) x.head is))
+    near x is le = nearest x.at
+        (omega (arith, le, b_is))
+        (subst (λ (w : Records). IsSome (w x.at)) (sym same) (head_there (write x.at) x.head is))
 
     one : (x : RecordAt) → IsHead write x → x.at ≡ t → record_of t h ≡ x
     one x is e =
@@ -146,26 +160,37 @@ module _ (write seen : Records) (same : seen ≡ write) (bound b : ℕ) (b_is : 
       times_are = ap times_of pushed ∙ times_push items (record_of t h)
 
       pub heads_fall : AreFalling (times_of new)
-      heads_fall = subst AreFalling (sym times_are) (falls_on (λ (x : RecordAt). x.at) (IsHead write) bound items (times_of items) down (record_of t h) here upto near one)
+      heads_fall = subst AreFalling (sym times_are)
+          (falls_on (λ (x : RecordAt). x.at) (IsHead write) bound items (times_of items) down
+          (record_of t h) here upto near one)
 
-      pub heads_last : t ≡ 0 → (at : ℕ) (head : RecordHead) → Contains new (record_of at head) ↔ (option_map write_head (write at) ≡ Some head)
+      pub heads_last : t ≡ 0 → (at : ℕ) (head : RecordHead)
+          → Contains new (record_of at head) ↔ (option_map write_head (write at) ≡ Some head)
       heads_last zero at head =
-          subst (λ (it : List RecordAt). Contains it (record_of at head) ↔ (option_map write_head (write at) ≡ Some head)) (sym pushed)
-          (down_last (λ (x : RecordAt). x.at) (IsHead write) bound items (times_of items) down (record_of t h) here upto near one zero (record_of at head))
+          subst (λ (it : List RecordAt). Contains it (record_of at head)
+          ↔ (option_map write_head (write at) ≡ Some head)) (sym pushed)
+          (down_last (λ (x : RecordAt). x.at)
+          (IsHead write) bound items (times_of items) down (record_of t h) here upto near one zero
+          (record_of at head))
 
       pub heads_on : (low : ℕ) → low ≡ t - 1 → 0 < t → DownTo write low new
       heads_on low low_is positive =
-          let on = down_on (λ (x : RecordAt). x.at) (IsHead write) bound items (times_of items) down (record_of t h) here upto near one low low_is positive in
+          let on = down_on (λ (x : RecordAt). x.at)
+          (IsHead write) bound items (times_of items) down (record_of t h) here upto near one low low_is positive in
           subst (λ (it : List RecordAt). DownTo write low it) (sym pushed)
-          (subst (λ ts. Down (λ (x : RecordAt). x.at) (IsHead write) low (items ++ record_of t h ∷ []) ts) (sym (times_push items (record_of t h))) on)
+          (subst (λ ts. Down (λ (x : RecordAt). x.at) (IsHead write) low (items ++ record_of t h ∷ []) ts)
+          (sym (times_push items (record_of t h))) on)
 
 -- ---- starts of values
 
-module _ (Has : ℕ → Type 0) (bound b : ℕ) (b_is : b ≡ bound) (items : List ℕ) (down : Down (λ (t : ℕ). t) Has bound items items) where
+module _ (Has : ℕ → Type 0) (bound b : ℕ) (b_is : b ≡ bound) (items : List ℕ)
+    (down : Down (λ (t : ℕ). t) Has bound items items) where
   pub starts_end : ((q : ℕ) → Has q → q ≤ b → ⊥) → (t : ℕ) → Contains items t ↔ Has t
-  starts_end none t = down_ends (λ (q : ℕ). q) Has bound items items down (λ q has le. none q has (omega (arith, le, b_is))) t
+  starts_end none t = down_ends (λ (q : ℕ). q) Has bound items items down
+      (λ q has le. none q has (omega (arith, le, b_is))) t
 
-  module _ (t : ℕ) (found : (t ≤ b) × Has t) (nearest : (q : ℕ) → Has q → q ≤ b → q ≤ t) (new : List ℕ) (pushed : new ≡ items ++ t ∷ []) where
+  module _ (t : ℕ) (found : (t ≤ b) × Has t) (nearest : (q : ℕ) → Has q → q ≤ b
+      → q ≤ t) (new : List ℕ) (pushed : new ≡ items ++ t ∷ []) where
     start_upto : t ≤ bound
     start_upto = (let le = found.0 in omega (arith, le, b_is))
 
@@ -176,14 +201,19 @@ module _ (Has : ℕ → Type 0) (bound b : ℕ) (b_is : b ≡ bound) (items : Li
     start_one q has e = sym e
 
     pub starts_fall : AreFalling new
-    starts_fall = subst AreFalling (sym pushed) (falls_on (λ (q : ℕ). q) Has bound items items down t found.1 start_upto start_near start_one)
+    starts_fall = subst AreFalling (sym pushed)
+        (falls_on (λ (q : ℕ). q) Has bound items items down t found.1 start_upto start_near start_one)
 
     pub starts_last : t ≡ 0 → (q : ℕ) → Contains new q ↔ Has q
-    starts_last zero q = subst (λ (it : List ℕ). Contains it q ↔ Has q) (sym pushed) (down_last (λ (q : ℕ). q) Has bound items items down t found.1 start_upto start_near start_one zero q)
+    starts_last zero q = subst (λ (it : List ℕ). Contains it q ↔ Has q)
+        (sym pushed) (down_last (λ (q : ℕ). q) Has bound items items down t found.1 start_upto start_near start_one zero
+        q)
 
     pub starts_on : (low : ℕ) → low ≡ t - 1 → 0 < t → Down (λ (q : ℕ). q) Has low new new
     starts_on low low_is positive =
-        subst (λ (it : List ℕ). Down (λ (q : ℕ). q) Has low it it) (sym pushed) (down_on (λ (q : ℕ). q) Has bound items items down t found.1 start_upto start_near start_one low low_is positive)
+        subst (λ (it : List ℕ). Down (λ (q : ℕ). q) Has low it it) (sym pushed)
+        (down_on (λ (q : ℕ). q) Has bound items items down t found.1 start_upto start_near start_one low low_is
+        positive)
 
 -- values of a key, by their starts
 abbrev pub HasStart : (List ℕ × ℕ → Option Value) → List ℕ → ℕ → Type 0
@@ -194,18 +224,21 @@ some_none None s e = cc s
 some_none (Some v) s e = cc e
 
 -- the starts of values fit, where that of the lock does
-pub starts_fit : (x : OnKey) → ∥ IsWhole x ∥₁ → (lock : Option LockHead) → lock ≡ option_map lock_head x.lock → IfSome lock (λ (head : LockHead). head.start < 2 ^ 64) → (t : ℕ) → IsSome (x.value t) → t < 2 ^ 64
-starts_fit x whole lock is fits t some = ∥∥₁_elim whole le_prop (λ w. elim (w.value_kept t (λ none. some_none (x.value t) some none)) [
-  | inl k ↦ (
-      let head : lock ≡ Some (lock_head k.rec) = is ∙ ap (option_map lock_head) k.found in
-      let lt = subst (λ (o : Option LockHead). IfSome o (λ (head : LockHead). head.start < 2 ^ 64)) head fits in
-      let of = k.of in
-      omega (arith, lt, of)
-      )
-  | inr k ↦ (
-      let below = dated_in x w k.at k.rec k.found in
-      let top = w.write_fits k.at (Commit k.rec) k.found in
-      let of = k.of in
-      omega (arith, below, top, of)
-      )
-])
+pub starts_fit : (x : OnKey) → ∥ IsWhole x ∥₁ → (lock : Option LockHead)
+    → lock ≡ option_map lock_head x.lock → IfSome lock (λ (head : LockHead). head.start < 2 ^ 64) → (t : ℕ)
+    → IsSome (x.value t) → t < 2 ^ 64
+starts_fit x whole lock is fits t some =
+    ∥∥₁_elim whole le_prop (λ w. elim (w.value_kept t (λ none. some_none (x.value t) some none)) [
+      | inl k ↦ (
+          let head : lock ≡ Some (lock_head k.rec) = is ∙ ap (option_map lock_head) k.found in
+          let lt = subst (λ (o : Option LockHead). IfSome o (λ (head : LockHead). head.start < 2 ^ 64)) head fits in
+          let of = k.of in
+          omega (arith, lt, of)
+          )
+      | inr k ↦ (
+          let below = dated_in x w k.at k.rec k.found in
+          let top = w.write_fits k.at (Commit k.rec) k.found in
+          let of = k.of in
+          omega (arith, below, top, of)
+          )
+    ])

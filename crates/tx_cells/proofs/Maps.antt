@@ -20,7 +20,8 @@ cmp_less : (x y : ℕ) → x < y → nat_cmp x y ≡ Less
 cmp_less x y lt = sym (nat_cmp_is x y Less lt)
 
 -- nothing is where what is there would not be above
-pub lt_none : {X : Type 0} (m : BTreeMap ℕ X) (at q : ℕ) → (IsSome (tree.get nat_cmp m q) → is_lt (nat_cmp at q) ≡ false) → at < q → tree.get nat_cmp m q ≡ None
+pub lt_none : {X : Type 0} (m : BTreeMap ℕ X) (at q : ℕ)
+    → (IsSome (tree.get nat_cmp m q) → is_lt (nat_cmp at q) ≡ false) → at < q → tree.get nat_cmp m q ≡ None
 lt_none {X} m at q h lt = go (tree.get nat_cmp m q) refl
   where
     go : (o : Option X) → tree.get nat_cmp m q ≡ o → o ≡ None
@@ -32,7 +33,8 @@ less_of = cmp_less
 
 pub upto_of : (t s : ℕ) → is_gt (nat_cmp t s) ≡ false → t ≤ s
 upto_of t s e = elim (cases_lt s t) [
-  | inl lt ↦ (let g : nat_cmp t s ≡ Greater = sym (nat_cmp_is t s Greater lt) in let h = ap is_gt g in absurd (cc (e, h)))
+  | inl lt ↦ (let g : nat_cmp t s ≡ Greater = sym (nat_cmp_is t s Greater lt) in let h =
+      ap is_gt g in absurd (cc (e, h)))
   | inr le ↦ le
 ]
 
@@ -45,7 +47,8 @@ of_upto t s le = go (nat_cmp t s) refl
     go Greater h = (let lt : s < t = ranked t s Greater (sym h) in absurd (omega (arith, le, lt)))
 
 module _ {X : Type 0} (f g : ℕ → Option X) (t : ℕ) where
-  pub with_at : (v : X) → ((q : ℕ) → g q ≡ cond (is_eq (nat_cmp t q)) (Some v) (f q)) → (q : ℕ) → g q ≡ cond (t == q) (Some v) (f q)
+  pub with_at : (v : X) → ((q : ℕ) → g q ≡ cond (is_eq (nat_cmp t q)) (Some v) (f q)) → (q : ℕ)
+      → g q ≡ cond (t == q) (Some v) (f q)
   with_at v is q = is q ∙ ap (λ (b : Bool). cond b (Some v) (f q)) (sym (unsigned_ties t q))
 
   pub without_at : ((q : ℕ) → g q ≡ cond (is_eq (nat_cmp t q)) None (f q)) → (q : ℕ) → g q ≡ cond (t == q) None (f q)

@@ -8,7 +8,8 @@ use Rattle.tx_plan.specs.declared.key_change.KeyChange.TheVariants.{Nothing, Loc
 use Rattle.tx_cells.specs.Numbers.{noted, noted_by}
 
 -- a change that is one notes its number
-pub noted_where : (c : KeyChange) → c ≢ Nothing → (s : Key → ℕ) (key : Key) (n : ℕ) (k : Key) → noted_by c s key n k ≡ noted s key n k
+pub noted_where : (c : KeyChange) → c ≢ Nothing → (s : Key → ℕ) (key : Key) (n : ℕ) (k : Key)
+    → noted_by c s key n k ≡ noted s key n k
 noted_where Nothing some s key n k = absurd (some refl)
 noted_where (Lock new) some s key n k = refl
 noted_where (Ttl t) some s key n k = refl

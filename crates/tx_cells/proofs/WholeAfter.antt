@@ -42,10 +42,13 @@ abbrev Records : Type 0
 Records = ℕ → Option WriteRec
 
 -- a lock record that is there, in the cells
-pub lock_there : (x : OnKey) (lock : tables.Lock) → (cells_of x).lock ≡ Some lock → (rec : LockRec) × (x.lock ≡ Some rec) × (lock_of x.value rec ≡ lock)
+pub lock_there : (x : OnKey) (lock : tables.Lock) → (cells_of x).lock ≡ Some lock
+    → (rec : LockRec) × (x.lock ≡ Some rec) × (lock_of x.value rec ≡ lock)
 lock_there x lock e = go x.lock refl e
   where
-    go : (o : Option LockRec) → x.lock ≡ o → option_map (lock_of x.value) o ≡ Some lock → (rec : LockRec) × (x.lock ≡ Some rec) × (lock_of x.value rec ≡ lock)
+    go : (o : Option LockRec) → x.lock ≡ o
+        → option_map (lock_of x.value) o ≡ Some lock → (rec : LockRec) × (x.lock ≡ Some rec)
+        × (lock_of x.value rec ≡ lock)
     go None f g = absurd (cc g)
     go (Some rec) f g = (rec, f, cc g)
 
@@ -58,17 +61,28 @@ no_lock x e = go x.lock refl e
 
 -- ---- with another record of the same lock
 
-module _ (x : OnKey) (rec new : LockRec) (w : IsWhole x) (e : x.lock ≡ Some rec) (start : new.start ≡ rec.start) (same : new.mutation ≡ rec.mutation) (sound : IsSound (cells_of (with_lock x (Some new)))) where
+module _ (x : OnKey) (rec new : LockRec) (w : IsWhole x) (e : x.lock ≡ Some rec)
+    (start : new.start ≡ rec.start) (same : new.mutation ≡ rec.mutation)
+    (sound : IsSound (cells_of (with_lock x (Some new)))) where
   relocked_keeps : (t : ℕ) → LockKeeps x.lock t → LockKeeps (Some new) t
   relocked_keeps t k =
       let one : rec ≡ k.rec = cc (e, k.found) in
-      record { rec = new; found = refl; of = start ∙ ap (λ (r : LockRec). r.start) one ∙ k.of; apart = ap keeps_apart same ∙ ap (λ (r : LockRec). keeps_apart r.mutation) one ∙ k.apart }
+      record {
+        rec = new;
+        found = refl;
+        of = start
+            ∙ ap (λ (r : LockRec). r.start) one ∙ k.of;
+        apart =
+            ap keeps_apart same ∙ ap (λ (r : LockRec). keeps_apart r.mutation) one ∙ k.apart;
+      }
 
   pub whole_relocked : IsWhole (with_lock x (Some new))
   whole_relocked = record {
     lock_kept = λ r f. (
         let one : new ≡ r = cc f in
-        let mine : IsKept (x.value new.start) new.mutation = subst (λ s. IsKept (x.value s) new.mutation) (sym start) (subst (IsKept (x.value rec.start)) (sym same) (w.lock_kept rec e)) in
+        let mine : IsKept (x.value new.start) new.mutation =
+        subst (λ s. IsKept (x.value s) new.mutation) (sym start)
+        (subst (IsKept (x.value rec.start)) (sym same) (w.lock_kept rec e)) in
         subst (λ (q : LockRec). IsKept (x.value q.start) q.mutation) one mine);
     write_kept = w.write_kept;
     value_kept = λ t there. elim (w.value_kept t there) [ inl k ↦ inl (relocked_keeps t k) | inr k ↦ inr k ];
@@ -78,9 +92,11 @@ module _ (x : OnKey) (rec new : LockRec) (w : IsWhole x) (e : x.lock ≡ Some re
 
 -- ---- a lock that is committed
 
-pub put_or_there : (c q : ℕ) (rec r : WriteRec) (o : Option WriteRec) → cond (c == q) (Some rec) o ≡ Some r → ((c ≡ q) × (rec ≡ r)) ⊎ (o ≡ Some r)
+pub put_or_there : (c q : ℕ) (rec r : WriteRec) (o : Option WriteRec) → cond (c == q) (Some rec) o ≡ Some r
+    → ((c ≡ q) × (rec ≡ r)) ⊎ (o ≡ Some r)
 put_or_there c q rec r o e = elim (cases_Bool (c == q)) [
-  | inl same ↦ (let f : Some rec ≡ Some r = sym (ap (λ b. cond b (Some rec) o) same) ∙ e in inl (eqb-true c q same, cc f))
+  | inl same ↦ (let f : Some rec ≡ Some r = sym (ap (λ b. cond b (Some rec) o) same)
+      ∙ e in inl (eqb-true c q same, cc f))
   | inr other ↦ inr (sym (ap (λ b. cond b (Some rec) o) other) ∙ e)
 ]
 
@@ -93,16 +109,20 @@ put_elsewhere write c q rec other = elim (cases_Bool (c == q)) [
   | inr not ↦ ap (λ b. cond b (Some rec) (write q)) not
 ]
 
-module _ (x : OnKey) (rec : LockRec) (c : ℕ) (o : Bool) (w : IsWhole x) (e : x.lock ≡ Some rec) (can : HasCommitAt (cells_of x) c o) (fits : c < 2 ^ 64) where
+module _ (x : OnKey) (rec : LockRec)
+    (c : ℕ) (o : Bool) (w : IsWhole x) (e : x.lock ≡ Some rec) (can : HasCommitAt (cells_of x) c o)
+    (fits : c < 2 ^ 64) where
   same_lock : lock_of x.value rec ≡ can.lock
-  same_lock = (let here : (cells_of x).lock ≡ Some (lock_of x.value rec) = ap (option_map (lock_of x.value)) e in cc (here, can.stands))
+  same_lock = (let here : (cells_of x).lock ≡ Some (lock_of x.value rec) =
+      ap (option_map (lock_of x.value)) e in cc (here, can.stands))
 
   start_is : rec.start ≡ can.lock.start
   start_is = ap (λ (l : tables.Lock). l.start) same_lock
 
   none_here : (r : CommitRec) → x.write c ≡ Some (Commit r) → ⊥
   none_here r f = elim (cases_eq r.start can.lock.start) [
-    | inl own ↦ w.sound.uncommitted can.lock c can.stands (record { rec = _; stands = stands_commit x c r f; own = own })
+    | inl own ↦ w.sound.uncommitted can.lock c can.stands
+        (record { rec = _; stands = stands_commit x c r f; own = own })
     | inr other ↦ can.unconflicted _ (record { stands = stands_commit x c r f; other = other })
   ]
 
@@ -113,7 +133,8 @@ module _ (x : OnKey) (rec : LockRec) (c : ℕ) (o : Bool) (w : IsWhole x) (e : x
   whole_committed sound = record {
     lock_kept = λ r f. absurd (cc f);
     write_kept = λ q r f. elim (put_or_there c q (Commit (commit_of rec o)) (Commit r) (x.write q) f) [
-      | inl new ↦ (let one : commit_of rec o ≡ r = cc new.1 in subst (λ (y : CommitRec). IsKept (x.value y.start) y.mutation) one (w.lock_kept rec e))
+      | inl new ↦ (let one : commit_of rec o ≡ r =
+          cc new.1 in subst (λ (y : CommitRec). IsKept (x.value y.start) y.mutation) one (w.lock_kept rec e))
       | inr old ↦ w.write_kept q r old
     ];
     value_kept = λ t there. inr (elim (w.value_kept t there) [
@@ -130,7 +151,8 @@ module _ (x : OnKey) (rec : LockRec) (c : ℕ) (o : Bool) (w : IsWhole x) (e : x
       | inr k ↦ record {
         at = k.at;
         rec = k.rec;
-        found = put_elsewhere x.write c k.at (Commit (commit_of rec o)) (λ same. none_here k.rec (ap x.write (sym same) ∙ k.found)) ∙ k.found;
+        found = put_elsewhere x.write c k.at (Commit (commit_of rec o))
+            (λ same. none_here k.rec (ap x.write (sym same) ∙ k.found)) ∙ k.found;
         of = k.of;
         apart = k.apart;
       }
@@ -149,13 +171,24 @@ pub record IsLike (a b : CommitRec) : Type 0 where
   pub mutation : a.mutation ≡ b.mutation
   pub start : a.start ≡ b.start
 
-mark_back : (o : Option WriteRec) (r : CommitRec) → marked o ≡ Some (Commit r) → (b : CommitRec) × (o ≡ Some (Commit b)) × IsLike b r
+mark_back : (o : Option WriteRec) (r : CommitRec) → marked o ≡ Some (Commit r) → (b : CommitRec) × (o ≡ Some (Commit b))
+    × IsLike b r
 mark_back None r e = absurd (cc e)
 mark_back (Some (Rollback s)) r e = absurd (cc e)
-mark_back (Some (Commit b)) r e = (let one : with_mark b ≡ r = cc e in (b, refl, record { mutation = ap (λ (y : CommitRec). y.mutation) one; start = ap (λ (y : CommitRec). y.start) one }))
+mark_back (Some (Commit b)) r e = (let one : with_mark b ≡ r =
+    cc e in (
+      b,
+      refl,
+      record {
+        mutation = ap (λ (y : CommitRec). y.mutation) one;
+        start = ap (λ (y : CommitRec). y.start) one;
+      },
+    ))
 
 -- what is a commit record afterwards was one before
-pub left_back : (write : Records) (t : ℕ) (how : Left) (q : ℕ) (r : CommitRec) → after_left write t how q ≡ Some (Commit r) → (b : CommitRec) × (write q ≡ Some (Commit b)) × IsLike b r
+pub left_back : (write : Records) (t : ℕ) (how : Left) (q : ℕ)
+    (r : CommitRec) → after_left write t how q ≡ Some (Commit r) → (b : CommitRec) × (write q ≡ Some (Commit b))
+    × IsLike b r
 left_back write t left.Already q r e = (r, e, record { mutation = refl; start = refl })
 left_back write t left.Record q r e = elim (put_or_there t q (Rollback t) (Commit r) (write q) e) [
   | inl new ↦ absurd (cc new.1)
@@ -163,13 +196,21 @@ left_back write t left.Record q r e = elim (put_or_there t q (Rollback t) (Commi
 ]
 left_back write t left.Mark q r e = elim (cases_Bool (t == q)) [
   | inl same ↦ mark_back (write q) r (sym (ap (λ b. cond b (marked (write q)) (write q)) same) ∙ e)
-  | inr other ↦ (r, sym (ap (λ b. cond b (marked (write q)) (write q)) other) ∙ e, record { mutation = refl; start = refl })
+  | inr other ↦ (
+    r,
+    sym (ap (λ b. cond b (marked (write q)) (write q)) other)
+        ∙ e,
+    record { mutation = refl; start = refl },
+  )
 ]
 
 -- what is a commit record before stays one
-left_on : (x : OnKey) (t : ℕ) (how : Left) → IsWhole x → IsLeft (cells_of x).write t how → (q : ℕ) (b : CommitRec) → x.write q ≡ Some (Commit b) → (r : CommitRec) × (after_left x.write t how q ≡ Some (Commit r)) × IsLike b r
+left_on : (x : OnKey) (t : ℕ) (how : Left) → IsWhole x → IsLeft (cells_of x).write t how
+    → (q : ℕ) (b : CommitRec) → x.write q ≡ Some (Commit b)
+    → (r : CommitRec) × (after_left x.write t how q ≡ Some (Commit r)) × IsLike b r
 left_on x t left.Already w is q b e = (b, e, record { mutation = refl; start = refl })
-left_on x t left.Record w is q b e = (b, put_elsewhere x.write t q (Rollback t) not_here ∙ e, record { mutation = refl; start = refl })
+left_on x t left.Record w is q b e =
+    (b, put_elsewhere x.write t q (Rollback t) not_here ∙ e, record { mutation = refl; start = refl })
   where
     not_here : q ≡ t → ⊥
     not_here same = elim (cases_eq b.start t) [
@@ -177,11 +218,23 @@ left_on x t left.Record w is q b e = (b, put_elsewhere x.write t q (Rollback t) 
       | inr other ↦ is _ (record { stands = stands_commit x t b (ap x.write (sym same) ∙ e); other = other })
     ]
 left_on x t left.Mark w is q b e = elim (cases_Bool (t == q)) [
-  | inl same ↦ (with_mark b, ap (λ v. cond v (marked (x.write q)) (x.write q)) same ∙ ap marked e, record { mutation = refl; start = refl })
-  | inr other ↦ (b, ap (λ v. cond v (marked (x.write q)) (x.write q)) other ∙ e, record { mutation = refl; start = refl })
+  | inl same ↦ (
+    with_mark b,
+    ap (λ v. cond v (marked (x.write q)) (x.write q)) same
+        ∙ ap marked e,
+    record { mutation = refl; start = refl },
+  )
+  | inr other ↦ (
+    b,
+    ap (λ v. cond v (marked (x.write q)) (x.write q)) other
+        ∙ e,
+    record { mutation = refl; start = refl },
+  )
 ]
 
-left_fits : (write : Records) (t : ℕ) (how : Left) → t < 2 ^ 64 → ((c : ℕ) (r : WriteRec) → write c ≡ Some r → c < 2 ^ 64) → (q : ℕ) (r : WriteRec) → after_left write t how q ≡ Some r → q < 2 ^ 64
+left_fits : (write : Records) (t : ℕ) (how : Left) → t < 2 ^ 64
+    → ((c : ℕ) (r : WriteRec) → write c ≡ Some r → c < 2 ^ 64) → (q : ℕ) (r : WriteRec)
+    → after_left write t how q ≡ Some r → q < 2 ^ 64
 left_fits write t left.Already lt fits q r e = fits q r e
 left_fits write t left.Record lt fits q r e = elim (put_or_there t q (Rollback t) r (write q) e) [
   | inl new ↦ subst (λ n. n < 2 ^ 64) new.0 lt
@@ -199,12 +252,21 @@ module _ (x : OnKey) (t : ℕ) (how : Left) (w : IsWhole x) (is : IsLeft (cells_
   write_on : (s : ℕ) → WriteKeeps x.write s → WriteKeeps (after_left x.write t how) s
   write_on s k = (
       let n = left_on x t how w is k.at k.rec k.found in
-      record { at = k.at; rec = n.0; found = n.1; of = sym n.2.start ∙ k.of; apart = ap keeps_apart (sym n.2.mutation) ∙ k.apart })
+      record {
+        at = k.at;
+        rec = n.0;
+        found = n.1;
+        of = sym n.2.start ∙ k.of;
+        apart = ap keeps_apart (sym n.2.mutation)
+            ∙ k.apart;
+      })
 
-  kept_before : (q : ℕ) (r : CommitRec) → after_left x.write t how q ≡ Some (Commit r) → IsKept (x.value r.start) r.mutation
+  kept_before : (q : ℕ) (r : CommitRec) → after_left x.write t how q ≡ Some (Commit r)
+      → IsKept (x.value r.start) r.mutation
   kept_before q r e = (
       let b = left_back x.write t how q r e in
-      subst (λ s. IsKept (x.value s) r.mutation) b.2.start (subst (IsKept (x.value b.0.start)) b.2.mutation (w.write_kept q b.0 b.1)))
+      subst (λ s. IsKept (x.value s) r.mutation) b.2.start
+      (subst (IsKept (x.value b.0.start)) b.2.mutation (w.write_kept q b.0 b.1)))
 
   whole_left : IsSound (cells_of (Rolled x.lock x.value)) → IsWhole (Rolled x.lock x.value)
   whole_left sound = record {
@@ -215,12 +277,14 @@ module _ (x : OnKey) (t : ℕ) (how : Left) (w : IsWhole x) (is : IsLeft (cells_
     sound = sound;
   }
 
-  whole_removed : IsRemoved (cells_of x).lock t true → IsSound (cells_of (Rolled None (without_value x.value t))) → IsWhole (Rolled None (without_value x.value t))
+  whole_removed : IsRemoved (cells_of x).lock t true → IsSound (cells_of (Rolled None (without_value x.value t)))
+      → IsWhole (Rolled None (without_value x.value t))
   whole_removed removed sound = record {
     lock_kept = λ r f. absurd (cc f);
     write_kept = λ q r f. (
         let b = left_back x.write t how q r f in
-        let apart = without_apart x.value t r.start (λ own. alone x t w.sound.uncommitted removed q b.0 b.1 (b.2.start ∙ own)) in
+        let apart = without_apart x.value t r.start
+        (λ own. alone x t w.sound.uncommitted removed q b.0 b.1 (b.2.start ∙ own)) in
         subst (λ (v : Option Value). IsKept v r.mutation) (sym apart) (kept_before q r f));
     value_kept = λ s there. (
         let other : s ≡ t → ⊥ = λ same. there (ap (λ b. cond b None (x.value s)) (eq-eqb t s (sym same))) in
@@ -228,7 +292,8 @@ module _ (x : OnKey) (t : ℕ) (how : Left) (w : IsWhole x) (is : IsLeft (cells_
           | inl k ↦ (
               let l = lock_there x removed.0 removed.1.stands in
               let one : k.rec ≡ l.0 = cc (k.found, l.1) in
-              absurd (other (sym k.of ∙ ap (λ (r : LockRec). r.start) one ∙ ap (λ (y : tables.Lock). y.start) l.2 ∙ removed.1.own))
+              absurd (other (sym k.of ∙ ap (λ (r : LockRec). r.start) one ∙ ap (λ (y : tables.Lock). y.start) l.2
+              ∙ removed.1.own))
               )
           | inr k ↦ inr (write_on s k)
         ]);
@@ -236,7 +301,8 @@ module _ (x : OnKey) (t : ℕ) (how : Left) (w : IsWhole x) (is : IsLeft (cells_
     sound = sound;
   }
 
-whole_rolled : (x : OnKey) (t : ℕ) (removes : Bool) (how : Left) → IsWhole x → IsRemoved (cells_of x).lock t removes → IsLeft (cells_of x).write t how → t < 2 ^ 64
+whole_rolled : (x : OnKey) (t : ℕ) (removes : Bool) (how : Left) → IsWhole x → IsRemoved (cells_of x).lock t removes
+    → IsLeft (cells_of x).write t how → t < 2 ^ 64
     → IsSound (cells_of (after x (change.RollBack t removes how))) → IsWhole (after x (change.RollBack t removes how))
 whole_rolled x t true how w removed is lt sound = whole_removed x t how w is lt removed sound
 whole_rolled x t false how w removed is lt sound = whole_left x t how w is lt sound
@@ -246,8 +312,11 @@ whole_rolled x t false how w removed is lt sound = whole_left x t how w is lt so
 pub on_same : (x : OnKey) (rec : LockRec) (f : LockRec → OnKey) → x.lock ≡ Some rec → on_lock x f ≡ f rec
 on_same x rec f e = ap (λ (o : Option LockRec). elim o [ None ↦ x | Some r ↦ f r ]) e
 
-pub whole_after : (x : OnKey) (made : KeyChange) → IsWhole x → Applies (cells_of x) made → Fits made → IsWhole (after x made)
-whole_after x made w applies fits = go made applies fits (subst IsSound (sym (cells_after x made w.sound.uncommitted applies)) (sound_changed (cells_of x) made w.sound applies))
+pub whole_after : (x : OnKey) (made : KeyChange) → IsWhole x → Applies (cells_of x) made → Fits made
+    → IsWhole (after x made)
+whole_after x made w applies fits =
+    go made applies fits (subst IsSound (sym (cells_after x made w.sound.uncommitted applies))
+    (sound_changed (cells_of x) made w.sound applies))
   where
     go : (k : KeyChange) → Applies (cells_of x) k → Fits k → IsSound (cells_of (after x k)) → IsWhole (after x k)
     go change.Nothing applies fits sound = w
@@ -255,53 +324,71 @@ whole_after x made w applies fits = go made applies fits (subst IsSound (sym (ce
     go (change.Ttl ttl) applies fits sound = (
         let l = lock_there x applies.0 applies.1 in
         let is = on_same x l.0 (λ rec. with_lock x (Some (with_ttl rec ttl))) l.1 in
-        subst IsWhole (sym is) (whole_relocked x l.0 (with_ttl l.0 ttl) w l.1 refl refl (subst (λ (y : OnKey). IsSound (cells_of y)) is sound)))
+        subst IsWhole (sym is) (whole_relocked x l.0 (with_ttl l.0 ttl) w l.1 refl refl
+        (subst (λ (y : OnKey). IsSound (cells_of y)) is sound)))
     go (change.Minimum min) applies fits sound = (
         let l = lock_there x applies.lock applies.stands in
         let is = on_same x l.0 (λ rec. with_lock x (Some (with_min rec min))) l.1 in
-        subst IsWhole (sym is) (whole_relocked x l.0 (with_min l.0 min) w l.1 refl refl (subst (λ (y : OnKey). IsSound (cells_of y)) is sound)))
+        subst IsWhole (sym is) (whole_relocked x l.0 (with_min l.0 min) w l.1 refl refl
+        (subst (λ (y : OnKey). IsSound (cells_of y)) is sound)))
     go (change.Commit c o) applies fits sound = (
         let l = lock_there x applies.lock applies.stands in
-        let is = on_same x l.0 (λ rec. record { lock = None; write = with_record x.write c (Commit (commit_of rec o)); value = x.value }) l.1 in
-        subst IsWhole (sym is) (whole_committed x l.0 c o w l.1 applies fits (subst (λ (y : OnKey). IsSound (cells_of y)) is sound)))
-    go (change.RollBack t removes how) applies fits sound = whole_rolled x t removes how w applies.0 applies.1 fits sound
+        let is = on_same x l.0 (λ rec. record {
+          lock = None;
+          write = with_record x.write c (Commit (commit_of rec o));
+          value = x.value;
+        }) l.1 in
+        subst IsWhole (sym is) (whole_committed x l.0 c o w l.1 applies fits
+        (subst (λ (y : OnKey). IsSound (cells_of y)) is sound)))
+    go (change.RollBack t removes how) applies fits sound =
+        whole_rolled x t removes how w applies.0 applies.1 fits sound
 
 -- ---- a lock that is put
 
-put_apart : (value : ℕ → Option Value) (t : ℕ) (v : Value) → IsKept (with_value value t (apart_of (mutation.Put v)) t) (stored_of (mutation.Put v))
+put_apart : (value : ℕ → Option Value) (t : ℕ) (v : Value)
+    → IsKept (with_value value t (apart_of (mutation.Put v)) t) (stored_of (mutation.Put v))
 put_apart value t v = elim (cases_lt MAX_INLINE_BYTES (length v)) [
   | inl long ↦ (
       let is : is_long (mutation.Put v) ≡ true = lt-ltb MAX_INLINE_BYTES (length v) long in
-      let there : IsKept (cond (t == t) (Some v) (value t)) (stored.Put InDefault) = subst (λ b. IsKept (cond b (Some v) (value t)) (stored.Put InDefault)) (sym (eq-eqb t t refl)) long in
-      subst (λ b. IsKept (with_value value t (cond b (Some v) None) t) (stored.Put (cond b InDefault (Inline v)))) (sym is) there
+      let there : IsKept (cond (t == t) (Some v) (value t))
+      (stored.Put InDefault) =
+      subst (λ b. IsKept (cond b (Some v) (value t)) (stored.Put InDefault)) (sym (eq-eqb t t refl)) long in
+      subst (λ b. IsKept (with_value value t (cond b (Some v) None) t) (stored.Put (cond b InDefault (Inline v))))
+      (sym is) there
       )
   | inr short ↦ (
       let is : is_long (mutation.Put v) ≡ false = le-ltb MAX_INLINE_BYTES (length v) short in
-      subst (λ b. IsKept (with_value value t (cond b (Some v) None) t) (stored.Put (cond b InDefault (Inline v)))) (sym is) short
+      subst (λ b. IsKept (with_value value t (cond b (Some v) None) t) (stored.Put (cond b InDefault (Inline v))))
+      (sym is) short
       )
 ]
 
-kept_apart : (value : ℕ → Option Value) (t : ℕ) (m : Mutation) → IsKept (with_value value t (apart_of m) t) (stored_of m)
+kept_apart : (value : ℕ → Option Value) (t : ℕ) (m : Mutation)
+    → IsKept (with_value value t (apart_of m) t) (stored_of m)
 kept_apart value t mutation.Delete = tt
 kept_apart value t mutation.Lock = tt
 kept_apart value t (mutation.Put v) = put_apart value t v
 kept_apart value t (mutation.Insert v) = put_apart value t v
 
 -- where a value is kept apart, the record says so
-apart_put : (value : ℕ → Option Value) (t : ℕ) (v : Value) → value t ≡ None → with_value value t (apart_of (mutation.Put v)) t ≢ None → keeps_apart (stored_of (mutation.Put v)) ≡ true
+apart_put : (value : ℕ → Option Value) (t : ℕ) (v : Value)
+    → value t ≡ None → with_value value t (apart_of (mutation.Put v)) t ≢ None
+    → keeps_apart (stored_of (mutation.Put v)) ≡ true
 apart_put value t v none there = elim (cases_Bool (is_long (mutation.Put v))) [
   | inl long ↦ ap (λ b. keeps_apart (stored.Put (cond b InDefault (Inline v)))) long
   | inr short ↦ absurd (there (ap (λ b. with_value value t (cond b (Some v) None) t) short ∙ none))
 ]
 
-apart_kept : (value : ℕ → Option Value) (t : ℕ) (m : Mutation) → value t ≡ None → with_value value t (apart_of m) t ≢ None → keeps_apart (stored_of m) ≡ true
+apart_kept : (value : ℕ → Option Value) (t : ℕ) (m : Mutation) → value t ≡ None
+    → with_value value t (apart_of m) t ≢ None → keeps_apart (stored_of m) ≡ true
 apart_kept value t mutation.Delete none there = absurd (there none)
 apart_kept value t mutation.Lock none there = absurd (there none)
 apart_kept value t (mutation.Put v) none there = apart_put value t v none there
 apart_kept value t (mutation.Insert v) none there = apart_put value t v none there
 
 -- no value is kept apart for a transaction that can put a lock
-pub no_value : (x : OnKey) (b : Prewrite) (new : NewLock) → IsWhole x → CanPut (cells_of x) b new → x.value b.start ≡ None
+pub no_value : (x : OnKey) (b : Prewrite) (new : NewLock) → IsWhole x → CanPut (cells_of x) b new
+    → x.value b.start ≡ None
 no_value x b new w can = go (x.value b.start) refl
   where
     go : (o : Option Value) → x.value b.start ≡ o → o ≡ None
@@ -311,9 +398,12 @@ no_value x b new w can = go (x.value b.start) refl
       | inr k ↦ absurd (uncommitted x b new can k.at k.rec k.found k.of)
     ]
 
-pub whole_put : (x : OnKey) (b : Prewrite) (new : NewLock) → IsWhole x → CanPut (cells_of x) b new → IsWhole (put_on x b new)
+pub whole_put : (x : OnKey) (b : Prewrite) (new : NewLock) → IsWhole x → CanPut (cells_of x) b new
+    → IsWhole (put_on x b new)
 whole_put x b new w can = record {
-  lock_kept = λ r f. (let one : lock_put b new ≡ r = cc f in subst (λ (q : LockRec). IsKept (with_value x.value b.start (apart_of b.mutation) q.start) q.mutation) one (kept_apart x.value b.start b.mutation));
+  lock_kept = λ r f. (let one : lock_put b new ≡ r =
+      cc f in subst (λ (q : LockRec). IsKept (with_value x.value b.start (apart_of b.mutation) q.start) q.mutation) one
+      (kept_apart x.value b.start b.mutation));
   write_kept = λ q r f. (
       let apart = with_apart x.value b.start (apart_of b.mutation) r.start (uncommitted x b new can q r f) in
       subst (λ (v : Option Value). IsKept v r.mutation) (sym apart) (w.write_kept q r f));
@@ -322,12 +412,15 @@ whole_put x b new w can = record {
       rec = lock_put b new;
       found = refl;
       of = sym same;
-      apart = apart_kept x.value b.start b.mutation (no_value x b new w can) (λ none. there (ap (with_value x.value b.start (apart_of b.mutation)) same ∙ none));
+      apart = apart_kept x.value b.start
+          b.mutation (no_value x b new w can)
+          (λ none. there (ap (with_value x.value b.start (apart_of b.mutation)) same ∙ none));
     })
-    | inr other ↦ elim (w.value_kept s (λ none. there (with_apart x.value b.start (apart_of b.mutation) s other ∙ none))) [
-      | inl k ↦ (let f = no_lock x can.free in let g = k.found in cc (f, g))
-      | inr k ↦ inr k
-    ]
+    | inr other ↦ elim (w.value_kept s
+        (λ none. there (with_apart x.value b.start (apart_of b.mutation) s other ∙ none))) [
+          | inl k ↦ (let f = no_lock x can.free in let g = k.found in cc (f, g))
+          | inr k ↦ inr k
+        ]
   ];
   write_fits = w.write_fits;
   sound = subst IsSound (sym (cells_put x b new can)) (sound_put (cells_of x) b new w.sound can);

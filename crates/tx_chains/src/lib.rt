@@ -1,6 +1,6 @@
-//! Versions that the transactions of a recording may have written: chains of what they put into each
-//! key, in the order that is known, and in an order of what nobody saw. Nothing is said of them
-//! here; tx_verdict looks at what they are evidence of.
+//! Versions that the transactions of a recording may have written: chains of what they put into
+//! each key, in the order that is known, and in an order of what nobody saw. Nothing is said of
+//! them here; tx_verdict looks at what they are evidence of.
 #![tactic(auto)]
 
 mod assemble;

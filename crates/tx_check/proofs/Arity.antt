@@ -39,5 +39,6 @@ pub none_beside : (members : List Value) → (length members < 2) ⊎ (2 < lengt
     → step_beside_items (items_view members) ≡ None
 none_beside [] far = refl
 none_beside (v ∷ []) far = refl
-none_beside (v ∷ w ∷ []) far = elim far [ inl few ↦ absurd (omega (arith, few)) | inr many ↦ absurd (omega (arith, many)) ]
+none_beside (v ∷ w ∷ []) far =
+    elim far [ inl few ↦ absurd (omega (arith, few)) | inr many ↦ absurd (omega (arith, many)) ]
 none_beside (v ∷ w ∷ x ∷ more) far = refl

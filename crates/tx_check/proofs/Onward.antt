@@ -49,7 +49,8 @@ pub record AllSoFar (has_reasons : Bool) (input : List ℕ) (left : Option (List
   pub refused : is_refused ≡ has_no turns
 
 pub all_so_far : (has_reasons : Bool) (known : Option (List ℕ)) (machine : Machine) (text : List ℕ)
-    → Represents machine empty → text ≡ [] → IfSome known (λ input. AllSoFar has_reasons input known machine 0 text false)
+    → Represents machine empty → text ≡ []
+    → IfSome known (λ input. AllSoFar has_reasons input known machine 0 text false)
 all_so_far has_reasons None machine text stands none = tt
 all_so_far has_reasons (Some input) machine text stands none = record {
   rest = input;

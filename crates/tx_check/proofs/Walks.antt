@@ -14,7 +14,8 @@ use Rattle.tx_check.specs.Turns.{Turns, StepTurns}
 use Rattle.tx_check.proofs.Traces.{SoFar, Says-more, reached, left_at}
 
 -- the lines before those that are left say this run, and the machine stands for what it leaves
-pub record KeptSoFar (input : List ℕ) (left : Option (List ℕ)) (machine : Machine) (number : ℕ) (steps : List Step) : Type 0 where
+pub record KeptSoFar (input : List ℕ) (left : Option (List ℕ)) (machine : Machine) (number : ℕ)
+    (steps : List Step) : Type 0 where
   pub rest : List ℕ
   pub before : List (List ℕ)
   pub is_left : left ≡ Some rest
@@ -39,8 +40,8 @@ kept_so_far (Some input) machine steps stands none =
       stands = stands;
     }
 
-module _ {input : List ℕ} {left : Option (List ℕ)} {machine : Machine} {number : ℕ} {steps : List Step} (soon :
-    KeptSoFar input left machine number steps) where
+module _ {input : List ℕ} {left : Option (List ℕ)} {machine : Machine} {number : ℕ} {steps : List Step}
+    (soon : KeptSoFar input left machine number steps) where
   -- as a walk has it that does not keep them
   abbrev pub as_far : SoFar input left machine number
   as_far = record {

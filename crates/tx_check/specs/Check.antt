@@ -77,8 +77,8 @@ end_of (No number) = ended.No
 end_of (Fault number cause) = Faulted
 
 -- a check that was not broken off has written the line of its verdict, and nothing else
-abbrev pub Ends : List ℕ → Option (List ℕ) → Option (List ℕ) → End → Type 0
-Ends input old new end = (verdict : Verdict) × IsVerdict (lines_of input) verdict
+abbrev pub WritesVerdict : List ℕ → Option (List ℕ) → Option (List ℕ) → End → Type 0
+WritesVerdict input old new end = (verdict : Verdict) × IsVerdict (lines_of input) verdict
     × Appends old new (line_text (words verdict)) × (end ≡ end_of verdict)
 
 -- a check that was broken off has written nothing, or where a write failed a beginning of that line

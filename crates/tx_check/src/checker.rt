@@ -4,7 +4,7 @@ ghost use Rattle.std.specs.Prelude.{◌≡◌, ◌≤◌, ℕ, List, ◌++◌, l
 ghost use Rattle.std.specs.Io.KnownBytes.{Appends};
 ghost use Rattle.serde_json.specs.View.{view};
 ghost use Rattle.tx_check.specs.MachineSteps.{step_alone, step_beside, step_of};
-ghost use Rattle.tx_check.specs.Check.{step_of_form, step_in, IsVerdict, Ends, Breaks, end_of, EndsWithReason, BreaksWithReason};
+ghost use Rattle.tx_check.specs.Check.{step_of_form, step_in, IsVerdict, WritesVerdict, Breaks, end_of, EndsWithReason, BreaksWithReason};
 ghost use Rattle.tx_check.specs.Turns.{Turns, verdict_of};
 ghost use Rattle.tx_machine.specs.declared.step.Step.{Step};
 ghost use Rattle.tx_text.specs.Lines.{lines_of};
@@ -38,7 +38,7 @@ pub fn check<R: BufRead, W: Write>(
 ) -> Result<End, Broken>
     // Not broken off, it has written the line of its verdict, and nothing else.
     ensures ends { IfOk result (λ end. IfSome (R.remaining reader.old)
-        (λ input. Ends input (W.contents writer.old) (W.contents writer.new) end)) }
+        (λ input. WritesVerdict input (W.contents writer.old) (W.contents writer.new) end)) }
     // Broken off, it has written nothing, or where a write failed a beginning of that line.
     ensures breaks { IfErr result (λ broken. IfSome (R.remaining reader.old)
         (λ input. Breaks input (W.contents writer.old) (W.contents writer.new) broken)) }

@@ -1,7 +1,5 @@
 -- What an answer to a session's request tells, its state may keep.
-use Rattle.std.proofs.Common.{◌≡◌, ℕ, inl, inr, zero, suc, true, List, [], ◌∷◌, Option, Some, None, refl, sym, ap, subst, ◌∙◌}
-use Rattle.std.specs.Prelude.{Contains}
-use Rattle.std.proofs.lemmas.List.Elements.{Contains-push}
+use Rattle.std.proofs.Common.{◌≡◌, ℕ, inl, inr, zero, suc, List, [], ◌∷◌, Option, Some, None, refl, sym, ap, subst, ◌∙◌}
 use Rattle.tx_types.specs.declared.key.Key.{Key}
 use Rattle.tx_types.specs.declared.lock.LockInfo.{LockInfo}
 use Rattle.tx_types.specs.declared.mutation.Fate.{Fate}
@@ -13,9 +11,8 @@ use Rattle.tx_plan.specs.declared.answer.Answer.TheVariants.{Prewritten, Committ
 use Rattle.tx_plan.specs.Answers.{start_in}
 use Rattle.tx_core.specs.declared.event.UnknownCause.{UnknownCause}
 use Rattle.tx_core.specs.Histories.{History, declared}
-use Rattle.tx_core.specs.Decisions.{fate_in, infos_in}
+use Rattle.tx_core.specs.Decisions.{fate_in}
 use Rattle.tx_core.specs.Worlds.{WasTold, MayAnswer, IsWorldRun}
-use Rattle.tx_core.specs.Laws.{WasToldOf}
 use Rattle.tx_transaction.specs.declared.state.Terms.{Terms}
 use Rattle.tx_transaction.specs.declared.state.Phase.{Phase}
 use Rattle.tx_transaction.specs.declared.state.Phase.TheVariants as phase
@@ -25,7 +22,7 @@ use Rattle.tx_transaction.specs.declared.state.Response.TheVariants as response
 use Rattle.tx_transaction.specs.declared.state.Due.{Due}
 use Rattle.tx_transaction.specs.Buffers.{Entries, changes_of, key_at, progress_at, with_progress, promised}
 use Rattle.tx_transaction.specs.Sessions.{SessionState, first_settled, committed_by, met_by, drawn_after, sent_by, marked_by, marked, missed, after_answer, after_response, after_read, outcome_of}
-use Rattle.tx_client.specs.Facts.{WasAnswered, RespondsSo, standing, Mark, Marks, IsSession, IsFor}
+use Rattle.tx_client.specs.Facts.{WasAnswered, WasMet, RespondsSo, standing, Mark, Marks, IsSession, IsFor}
 use Rattle.tx_transaction.proofs.Entries.{changes_with, declaration_with}
 use Rattle.tx_client.proofs.Due.{names_start}
 use Rattle.tx_client.proofs.Marking.{prewritten_mark, checked_mark, rolled_unlocked}
@@ -61,11 +58,11 @@ drawn_was : (a : Answer) (o : Option ℕ) (c : ℕ) → drawn_after a o ≡ Some
 drawn_was (CommitTsExpired m) o c e = absurd (cc (e))
 drawn_was _ o c e = e
 
--- a lock that is met was told of
-met_told : (h : History) (b : Body) (a : Answer) → WasAnswered h b a → (o : Option LockInfo) → ((info : LockInfo) → o ≡ Some info → WasToldOf h info) → (info : LockInfo) → met_by a o ≡ Some info → WasToldOf h info
+-- a lock that is met stood in the way
+met_told : (h : History) (b : Body) (a : Answer) → WasAnswered h b a → (o : Option LockInfo) → ((info : LockInfo) → o ≡ Some info → WasMet h info) → (info : LockInfo) → met_by a o ≡ Some info → WasMet h info
 met_told h b (KeyIsLocked found) was o old info e =
     let same : found ≡ info = cc (e) in
-    subst (WasToldOf h) same (record { by = was.by; among = was.among; told = subst (λ (xs : List LockInfo). Contains xs found) (ap infos_in (sym was.told)) (Contains-push [] found) })
+    subst (WasMet h) same (b, was)
 met_told h b _ was o old info e = old info e
 
 module _ (bounds : List Key) (h : History) (run : IsWorldRun bounds h) (i : ℕ) (s : SessionState) (is : IsSession h i s) where

@@ -33,7 +33,7 @@ use Rattle.tx_transaction.specs.Buffers.{Entries, fresh, buffered, touched, inse
 use Rattle.tx_transaction.specs.Sessions.{SessionState, begun, is_declared, has_primary, declaration_of, declaration, is_open, can_draw, with_passed, outcome_of, unknown_by, undecided, finish_by, finish_of}
 use Rattle.tx_client.specs.Facts.{standing, Mark, Marks, IsReady, IsSession}
 use Rattle.tx_transaction.proofs.Entries.{distinct_touched}
-use Rattle.tx_client.proofs.Kept.{marks_on, ready_on, read_on, settled_on, told_of_on, others_act}
+use Rattle.tx_client.proofs.Kept.{marks_on, ready_on, read_on, settled_on, met_on, others_act}
 
 -- ---- it begins
 
@@ -178,7 +178,7 @@ drew_number bounds h i s p run is =
       distinct = is.distinct;
       marks = marks_on bounds h (Drawn i p ∷ h) run later s.start s.buffer is.marks;
       passes = read_on bounds h (Drawn i p ∷ h) run later s.start s.bypass is.passes;
-      met = λ info q. told_of_on bounds h (Drawn i p ∷ h) run later info (is.met info q);
+      met = λ info q. met_on bounds h (Drawn i p ∷ h) run later info (is.met info q);
       ready = λ c e. ready_on bounds h (Drawn i p ∷ h) run later s.start c (is.ready c e);
       settled = λ end e. settled_on bounds h (Drawn i p ∷ h) run later s.start end (is.settled end e);
     }
@@ -210,7 +210,7 @@ declared_next bounds h i s p terms d run is e =
       distinct = is.distinct;
       marks = marks_on bounds h (Declared d ∷ h) run later s.start s.buffer is.marks;
       passes = read_on bounds h (Declared d ∷ h) run later s.start s.bypass is.passes;
-      met = λ info q. told_of_on bounds h (Declared d ∷ h) run later info (is.met info q);
+      met = λ info q. met_on bounds h (Declared d ∷ h) run later info (is.met info q);
       ready = λ c q. ready_on bounds h (Declared d ∷ h) run later s.start c (is.ready c q);
       settled = λ end q. settled_on bounds h (Declared d ∷ h) run later s.start end (is.settled end q);
     }
@@ -307,7 +307,7 @@ module _ (bounds : List Key) (h : History) (i : ℕ) (s : SessionState) (is : Is
         distinct = is.distinct;
         marks = marks_on bounds h (Drawn i c ∷ h) run later s.start s.buffer is.marks;
         passes = read_on bounds h (Drawn i c ∷ h) run later s.start s.bypass is.passes;
-        met = λ info q. told_of_on bounds h (Drawn i c ∷ h) run later info (is.met info q);
+        met = λ info q. met_on bounds h (Drawn i c ∷ h) run later info (is.met info q);
         ready = λ n e. (let same : c ≡ n = cc (e) in subst (IsReady (Drawn i c ∷ h) s.start) same ready_now);
         settled = λ end e. settled_on bounds h (Drawn i c ∷ h) run later s.start end (is.settled end e);
       }

@@ -47,28 +47,38 @@ keeps_passed s t false = keeps_itself s
 keeps_passed s t true = record { keys = refl; declared = refl }
 
 module _ {S : Type 0} (sends : S → Asked → Reached → S → Type 0) (bounds : List Key) where
-  pub keeps_due : (k new : Known) (from to : S) (s : SessionState) (x : Phase) (due : Option Due) (r : SessionState × Result (Option Answer) Miss) → Sends sends bounds k from (due_walk s x due) r to new → KeepsSet s r.0
+  pub keeps_due : (k new : Known) (from to : S) (s : SessionState) (x : Phase) (due : Option Due)
+      (r : SessionState × Result (Option Answer) Miss) → Sends sends bounds k from (due_walk s x due) r to new
+      → KeepsSet s r.0
   keeps_due k new from to s x None r e = keeps_same s s r.0 (ap (λ y. y.0) e.0) (keeps_itself s)
   keeps_due k new from to s x (Some due) r (inl e) = keeps_same s s r.0 (ap (λ y. y.0) e.0) (keeps_itself s)
   keeps_due k new from to s x (Some due) r (inr (reached, mid, then, sent, learns, e)) =
       let c = response_of reached in
       keeps_same s (after_response s x due.index c) r.0 (ap (λ y. y.0) e.0) (keeps_response s x due.index c)
 
-  keeps_look : (k new : Known) (from to : S) (s : SessionState) (body : Body) (r : SessionState × Result Answer Miss) → Sends sends bounds k from (look_walk s body) r to new → KeepsSet s r.0
+  keeps_look : (k new : Known) (from to : S) (s : SessionState) (body : Body) (r : SessionState × Result Answer Miss)
+      → Sends sends bounds k from (look_walk s body) r to new → KeepsSet s r.0
   keeps_look k new from to s body r (reached, mid, then, sent, learns, e) =
       let c = response_of reached in
       keeps_same s (after_read s c) r.0 (ap (λ y. y.0) e.0) (keeps_read s c)
 
-  by_buffer : (k new : Known) (from to : S) (s : SessionState) (key : Key) (o : Option Mutation) (r : SessionState × Result Answer Miss) → Sends sends bounds k from (get_by s key o) r to new → KeepsSet s r.0
-  by_buffer k new from to s key (Some (mutation.Put v)) r (inl e) = keeps_same s s r.0 (ap (λ y. y.0) e.0) (keeps_itself s)
-  by_buffer k new from to s key (Some (mutation.Put v)) r (inr e) = keeps_same s s r.0 (ap (λ y. y.0) e.0) (keeps_itself s)
-  by_buffer k new from to s key (Some (mutation.Insert v)) r (inl e) = keeps_same s s r.0 (ap (λ y. y.0) e.0) (keeps_itself s)
-  by_buffer k new from to s key (Some (mutation.Insert v)) r (inr e) = keeps_same s s r.0 (ap (λ y. y.0) e.0) (keeps_itself s)
+  by_buffer : (k new : Known) (from to : S) (s : SessionState) (key : Key)
+      (o : Option Mutation) (r : SessionState × Result Answer Miss)
+      → Sends sends bounds k from (get_by s key o) r to new → KeepsSet s r.0
+  by_buffer k new from to s key (Some (mutation.Put v)) r (inl e) =
+      keeps_same s s r.0 (ap (λ y. y.0) e.0) (keeps_itself s)
+  by_buffer k new from to s key (Some (mutation.Put v)) r (inr e) =
+      keeps_same s s r.0 (ap (λ y. y.0) e.0) (keeps_itself s)
+  by_buffer k new from to s key (Some (mutation.Insert v)) r (inl e) =
+      keeps_same s s r.0 (ap (λ y. y.0) e.0) (keeps_itself s)
+  by_buffer k new from to s key (Some (mutation.Insert v)) r (inr e) =
+      keeps_same s s r.0 (ap (λ y. y.0) e.0) (keeps_itself s)
   by_buffer k new from to s key (Some mutation.Delete) r e = keeps_same s s r.0 (ap (λ y. y.0) e.0) (keeps_itself s)
   by_buffer k new from to s key (Some mutation.Lock) r (inl e) = keeps_same s s r.0 (ap (λ y. y.0) e.0) (keeps_itself s)
   by_buffer k new from to s key (Some mutation.Lock) r (inr e) = keeps_look k new from to s (read_of s key) r e
   by_buffer k new from to s key None r (inl e) = keeps_same s s r.0 (ap (λ y. y.0) e.0) (keeps_itself s)
   by_buffer k new from to s key None r (inr e) = keeps_look k new from to s (read_of s key) r e
 
-  pub keeps_get : (k new : Known) (from to : S) (s : SessionState) (key : Key) (r : SessionState × Result Answer Miss) → Sends sends bounds k from (get_walk s key) r to new → KeepsSet s r.0
+  pub keeps_get : (k new : Known) (from to : S) (s : SessionState) (key : Key) (r : SessionState × Result Answer Miss)
+      → Sends sends bounds k from (get_walk s key) r to new → KeepsSet s r.0
   keeps_get k new from to s key r e = by_buffer k new from to s key (buffered s.buffer key) r e

@@ -12,7 +12,6 @@ use Rattle.tx_core.specs.Recording.{Extends}
 use Rattle.tx_core.specs.Decisions.{accepted}
 use Rattle.tx_core.specs.Allowed.{AllowsRead}
 use Rattle.tx_core.specs.Worlds.{IsWorldRun, MayAnswer}
-use Rattle.tx_core.specs.Laws.{WasToldOf}
 use Rattle.tx_core.proofs.Basics.{some_of, is_some}
 use Rattle.tx_core.proofs.seats.Beginnings.{extends_begins}
 use Rattle.tx_core.proofs.seats.Staying.{drawer_on, began_on, declared_on, among_on, told_on, accepted_on}
@@ -23,7 +22,7 @@ use Rattle.tx_core.proofs.seats.Recording.{undeclared_on, unanswered_on}
 use Rattle.tx_core.proofs.locks.ToldLocks.{is_lock_on}
 use Rattle.tx_transaction.specs.Buffers.{Entries}
 use Rattle.tx_transaction.specs.Sessions.{SessionState, outcome_of}
-use Rattle.tx_client.specs.Facts.{standing, Mark, Marks, IsReady, IsSession}
+use Rattle.tx_client.specs.Facts.{WasMet, standing, Mark, Marks, IsReady, IsSession}
 
 accepted_still : (l h : History) → Begins l h → (t : ℕ) (k : Key) → accepted l t k ≢ None → accepted h t k ≢ None
 accepted_still l h b t k some = (let by = some_of (accepted l t k) some in is_some (accepted h t k) by.0 (accepted_on l h b t k by.0 by.1))
@@ -55,8 +54,11 @@ module _ (bounds : List Key) (l h : History) (run : IsWorldRun bounds h) (b : Be
   settled_on t (fate.Committed c) may = may_commit_on bounds l h run b t c may
   settled_on t fate.Aborted may = told_on l h b t fate.Aborted may
 
-  pub told_of_on : (info : LockInfo) → WasToldOf l info → WasToldOf h info
-  told_of_on info was = record { by = was.by; among = among_on l h b (Took was.by) was.among; told = was.told }
+  pub met_on : (info : LockInfo) → WasMet l info → WasMet h info
+  met_on info (asked, was) = (
+    asked,
+    record { by = was.by; among = among_on l h b (Took was.by) was.among; asked = was.asked; told = was.told },
+  )
 
 -- others act
 pub others_act : (bounds : List Key) (l h : History) → IsWorldRun bounds h → (i : ℕ) (s : SessionState) → Extends i l h → IsSession l i s → IsSession h i s
@@ -69,7 +71,7 @@ others_act bounds l h run i s goes is =
       distinct = is.distinct;
       marks = marks_on bounds l h run b s.start s.buffer is.marks;
       passes = read_on bounds l h run b s.start s.bypass is.passes;
-      met = λ info e. told_of_on bounds l h run b info (is.met info e);
+      met = λ info e. met_on bounds l h run b info (is.met info e);
       ready = λ c e. ready_on bounds l h run b s.start c (is.ready c e);
       settled = λ end e. settled_on bounds l h run b s.start end (is.settled end e);
     }

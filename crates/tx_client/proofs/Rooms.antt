@@ -18,7 +18,8 @@ use Rattle.tx_client.specs.Facts.{WasAnswered, RespondsSo}
 use Rattle.tx_client.specs.Rooms.{IsScan, HasUpto}
 use Rattle.tx_client.proofs.Marking.{taken_there}
 
-gives_upto : (r : Region) (l top : ℕ) (b : Scan) (a : Answer) (found : List KeyValue) → Answers r l top (request.Scan b) a → a ≡ Rows found → length found ≤ b.limit
+gives_upto : (r : Region) (l top : ℕ) (b : Scan) (a : Answer) (found : List KeyValue)
+    → Answers r l top (request.Scan b) a → a ≡ Rows found → length found ≤ b.limit
 gives_upto r l top b a found (inl x) e = absurd (cc (x.1, e))
 gives_upto r l top b a found (inr (no0, inl x)) e = absurd (cc (x.1, e))
 gives_upto r l top b a found (inr (no0, inr (no1, inl meets))) e = absurd (cc (meets.answer, e))
@@ -27,10 +28,13 @@ gives_upto r l top b a found (inr (no0, inr (no1, inr gives))) e =
     subst (λ (l : List KeyValue). length l ≤ b.limit) same gives.upto
 
 module _ (bounds : List Key) (h : History) (run : IsWorldRun bounds h) where
-  scanned_upto : (b : Scan) (found : List KeyValue) → WasAnswered h (request.Scan b) (Rows found) → length found ≤ b.limit
+  scanned_upto : (b : Scan) (found : List KeyValue) → WasAnswered h (request.Scan b) (Rows found)
+      → length found ≤ b.limit
   scanned_upto b found was =
       let took = taken_there bounds h was.by run was.among in
-      let gave : Answers (left took.0 was.by.region) was.by.loaded (last took.0) (request.Scan b) was.by.answer = subst (λ x. Answers (left took.0 was.by.region) was.by.loaded (last took.0) x was.by.answer) was.asked took.1.1.answers in
+      let gave : Answers (left took.0 was.by.region) was.by.loaded (last took.0) (request.Scan b) was.by.answer =
+      subst (λ x. Answers (left took.0 was.by.region) was.by.loaded (last took.0) x was.by.answer) was.asked
+      took.1.1.answers in
       gives_upto (left took.0 was.by.region) was.by.loaded (last took.0) b was.by.answer found gave was.told
 
   told_upto : (n : ℕ) (body : Body) → IsScan n body → (a : Answer) → WasAnswered h body a → HasUpto n (Ok a)

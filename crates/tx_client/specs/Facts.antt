@@ -5,6 +5,7 @@ use Rattle.tx_types.specs.declared.lock.LockInfo.{LockInfo}
 use Rattle.tx_types.specs.declared.mutation.Fate.{Fate}
 use Rattle.tx_plan.specs.declared.body.Body.{Body}
 use Rattle.tx_plan.specs.declared.answer.Answer.{Answer}
+use Rattle.tx_plan.specs.declared.answer.Answer.TheVariants.{KeyIsLocked}
 use Rattle.tx_machine.specs.Keys.{IsDistinct}
 use Rattle.tx_core.specs.declared.event.Declaration.{Declaration}
 use Rattle.tx_core.specs.declared.event.Taken.{Taken}
@@ -13,7 +14,7 @@ use Rattle.tx_core.specs.Histories.{History, drawer, began, declared, answered, 
 use Rattle.tx_core.specs.Decisions.{accepted, AllAccepted, HasTwoPhaseLock}
 use Rattle.tx_core.specs.Allowed.{AllowsRead, DrewAfterAll}
 use Rattle.tx_core.specs.Worlds.{MayAnswer, IsWorldRun}
-use Rattle.tx_core.specs.Laws.{WasToldOf, HadAsyncLock}
+use Rattle.tx_core.specs.Laws.{HadAsyncLock}
 use Rattle.tx_journal.specs.Known.{Known}
 use Rattle.tx_transaction.specs.declared.state.Terms.{Terms}
 use Rattle.tx_transaction.specs.declared.state.Response.{Response}
@@ -30,6 +31,10 @@ pub record WasAnswered (h : History) (b : Body) (a : Answer) : Type 0 where
   pub among : Among h (Took by)
   pub asked : by.body ≡ b
   pub told : by.answer ≡ a
+
+-- an answer said that this lock stands in the way (E1)
+abbrev pub WasMet : History → LockInfo → Type 0
+WasMet h info = (b : Body) × WasAnswered h b (KeyIsLocked info)
 
 -- what came of a request: an answer was given
 abbrev pub RespondsSo : History → Body → Response → Type 0
@@ -67,8 +72,8 @@ pub record IsReady (h : History) (t c : ℕ) : Type 0 where
 
 -- What ties a session's state to what its seat, number i, has seen: its seat drew its start, at
 -- which it began, and has not answered; its buffer is what it declared, each key once; its reads
--- may pass by those that they name; what it met was told of; and what it knows of its keys, of its
--- drawn timestamp and of its fate is so.
+-- may pass by those that they name; what it met stood in the way; and what it knows of its keys, of
+-- its drawn timestamp and of its fate is so.
 pub record IsSession (h : History) (i : ℕ) (s : SessionState) : Type 0 where
   pub drew_start : drawer h s.start ≡ Some i
   pub begun : began h s.start ≡ true
@@ -77,7 +82,7 @@ pub record IsSession (h : History) (i : ℕ) (s : SessionState) : Type 0 where
   pub distinct : IsDistinct (changes_of s.buffer)
   pub marks : Marks h s.start s.buffer
   pub passes : AllowsRead h s.start s.bypass
-  pub met : (info : LockInfo) → s.met ≡ Some info → WasToldOf h info
+  pub met : (info : LockInfo) → s.met ≡ Some info → WasMet h info
   pub ready : (c : ℕ) → s.drawn ≡ Some c → IsReady h s.start c
   pub settled : (end : Fate) → s.decision ≡ Some end → MayAnswer h s.start (outcome_of end)
 

@@ -2,14 +2,14 @@
 //! of tx_transaction.
 #![tactic(auto)]
 
-mod asking;
 mod order;
 mod part;
+mod requests;
 mod resolved;
 mod session;
 
-pub use asking::ask;
 pub use order::{commits_above, starts_above};
+pub use requests::ask;
 pub use resolved::{Decision, Met, Resolved, Status, WaitCause};
 pub use session::Session;
-pub use tx_transaction::{BufferEntry, Miss, Phase, Progress, Response, Terms};
+pub use tx_transaction::{BufferEntry, Miss, Phase, Progress, Response, Terms, Transaction};

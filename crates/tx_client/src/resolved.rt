@@ -3,6 +3,7 @@ ghost use Rattle.std.specs.Prelude.{◌≡◌};
 ghost use Rattle.tx_machine.specs.Machine.{Done};
 ghost use Rattle.tx_core.specs.Decisions.{decided};
 ghost use Rattle.tx_core.specs.Laws.{WasToldOf};
+ghost use Rattle.tx_client.specs.Facts.{WasMet};
 ghost use Rattle.tx_client.specs.Statuses.{Ends, lies_above};
 
 use std::marker::Model;
@@ -150,7 +151,7 @@ impl<J: JournalId> Decision<J> {
     }
 }
 
-/// A lock that stood in the way: an answer of the history that goes with it told of it.
+/// A lock that stood in a session's way: an answer of the history that goes with it said so (E1).
 #[derive(Drop)]
 pub struct Met<J: JournalId> {
     info: LockInfo,
@@ -158,20 +159,20 @@ pub struct Met<J: JournalId> {
 }
 
 impl<J: JournalId> Model for Met<J> {
-    ghost use Rattle.tx_core.specs.Laws.{WasToldOf};
+    ghost use Rattle.tx_client.specs.Facts.{WasMet};
     ghost use Rattle.tx_client.specs.Statuses.{Stopping};
 
     ghost Value = { Stopping };
 
     ghost view = { λ m. record { info = m.info; events = m.told } };
 
-    ghost invariant = { λ m. WasToldOf m.told m.info };
+    ghost invariant = { λ m. WasMet m.told m.info };
 }
 
 impl<J: JournalId> Met<J> {
     /// Of one who has seen this.
-    pub fn new(info: LockInfo, told: Told<J>) -> Met<J>
-        requires { WasToldOf told info }
+    pub(crate) fn new(info: LockInfo, told: Told<J>) -> Met<J>
+        requires { WasMet told info }
         ensures { result ≡ record { info = info; events = told } }
     {
         Met { info, told }
@@ -180,6 +181,7 @@ impl<J: JournalId> Met<J> {
     /// The lock, and the history.
     pub fn into_parts(self) -> (LockInfo, Told<J>)
         ensures parts { (result.0 ≡ self.info) × (result.1 ≡ self.events) }
+        ensures met { WasMet self.events self.info }
         ensures told { WasToldOf self.events self.info }
     {
         let Met { info, told } = self;

@@ -1,31 +1,23 @@
 //! Sessions: one transaction each, run over a way to the regions.
-ghost use Rattle.std.specs.Prelude.{◌≡◌, ℕ, ◌<◌, ◌⊎◌, is_some, length, true, false, not, Some, None, IfOk, IfErr, IfSome, OnOk, OnErr};
+ghost use Rattle.std.specs.Prelude.{◌≡◌, ℕ, ◌<◌, ◌⊎◌, is_some, true, false, Some, None, IfOk, IfErr, IfSome, OnOk, OnErr};
 ghost use Rattle.tx_types.specs.declared.fault.Fault.TheVariants as fault;
 ghost use Rattle.tx_core.specs.declared.event.Event.TheVariants.{Began, Declared};
-ghost use Rattle.tx_core.specs.Allowed.{Allowed};
 ghost use Rattle.tx_core.specs.Histories.{History};
 ghost use Rattle.tx_core.specs.Recording.{MayRecord};
 ghost use Rattle.tx_journal.specs.Known.{HasDrawn};
-ghost use Rattle.tx_transaction.specs.declared.state.Phase.TheVariants as phase;
-ghost use Rattle.tx_transaction.specs.Buffers.{touched, put_over, inserted, locked, buffered, not_empty, is_full, is_known};
-ghost use Rattle.tx_transaction.specs.Sessions.{begun, is_declared, has_primary, declaration, declaration_of, exceeds, lock_met, due_prewrite, due_commit, due_abort, can_draw, can_commit, can_abort};
-ghost use Rattle.tx_transaction.specs.Next.{due};
-ghost use Rattle.tx_journal.specs.Senders.{IsHeld, IsSender};
-ghost use Rattle.tx_client.specs.Walks.{Sends, due_walk, heartbeat_walk};
-ghost use Rattle.tx_client.specs.Facts.{RespondsSo, IsFor};
-ghost use Rattle.tx_client.specs.Calls.{seated, HasHeard, BeganAt, Records, Draws, RecordsDeclared, Asks};
+ghost use Rattle.tx_transaction.specs.Buffers.{touched, put_over, inserted, locked, buffered, not_empty, is_full};
+ghost use Rattle.tx_transaction.specs.Sessions.{begun, is_declared, has_primary, declaration, declaration_of, exceeds, can_draw, can_commit, can_abort};
+ghost use Rattle.tx_client.specs.Calls.{seated, HasHeard, BeganAt, Records, RecordsDeclared};
 ghost use Rattle.tx_client.specs.Order.{IsDrawnAfter};
 
 mod ends;
-mod next;
+mod phases;
 mod reads;
 
-use crate::asking::{Answering, ask_with_lock};
 use std::alloc::Global;
 use std::marker::{Brand, Model};
-use tx_core::{Answer, Body, Declaration};
-use tx_journal::{JournalId, Reply, Request, Seat, Sender, StepEvent, Told};
-use tx_transaction::{Due, Miss, Phase, Response, Terms, Transaction};
+use tx_journal::{JournalId, Seat, StepEvent, Told};
+use tx_transaction::{Terms, Transaction};
 use tx_types::{Fault, Key, Mutation, Ts, Value};
 
 /// A session: one transaction, and the seat that it was begun with. Contracts see its state and
@@ -98,7 +90,8 @@ fn record_declared<J: JournalId>(
         (declaration transaction.now.start p transaction.now.buffer terms.now) seat.new) }
     ensures none { IfOk result (λ p. not_empty transaction.now.buffer ≡ false → p ≡ 0) }
     ensures room { IfOk result (λ p. p < u64.MAX) }
-    ensures spent { IfErr result (λ e. (e ≡ fault.OracleSpent) × (seat.old.ticks < 1) × (seat.new ≡ seat.old)) }
+    ensures spent { IfErr result (λ e. (e ≡ fault.OracleSpent) × (seat.old.ticks < 1)
+        × (not_empty transaction.now.buffer ≡ true) × (seat.new ≡ seat.old)) }
 {
     if !transaction.has_keys() {
         return Ok(Ts::ZERO);
@@ -148,13 +141,6 @@ impl<J: JournalId> Session<J> {
         self.transaction.has_primary()
     }
 
-    /// The number that was drawn for what it declared, 0 where it declared nothing.
-    pub fn placed(&self) -> Ts
-        ensures { result ≡ self.now.state.placed }
-    {
-        self.transaction.placed()
-    }
-
     /// Whether a commit timestamp may be drawn: each key of a declared set is locked, some in two
     /// phases, nothing is decided, and none is drawn.
     pub fn can_draw(&self) -> bool
@@ -179,47 +165,11 @@ impl<J: JournalId> Session<J> {
         self.transaction.can_abort()
     }
 
-    /// Whether its buffer answers a read of the key of these bytes: where it does, the
-    /// read sends nothing.
-    pub fn is_known(&self, key: &[u8]) -> bool
-        ensures { result ≡ is_known (buffered self.now.state.buffer key.now) }
+    /// Its transaction: what is entered and declared, what may be asked of it, and what is due.
+    pub fn transaction(&self) -> &Transaction
+        ensures { result.now ≡ self.now.state }
     {
-        self.transaction.is_known(key)
-    }
-
-    /// Whether the key of these bytes is in the buffer or would not be one too many there.
-    pub fn has_room(&self, key: &[u8]) -> bool
-        ensures { result ≡ not (is_full self.now.state.buffer key.now) }
-    {
-        self.transaction.has_room(key)
-    }
-
-    /// Whether the buffer has no value of the key of these bytes, so that it may be inserted.
-    pub fn can_insert(&self, key: &[u8]) -> bool
-        ensures { (value : Value) → result ≡ is_some (inserted self.now.state.buffer key.now value) }
-    {
-        self.transaction.can_insert(key)
-    }
-
-    /// Whether a prewrite is due.
-    pub fn has_prewrite(&self) -> bool
-        ensures { result ≡ is_some (due_prewrite self.now.state) }
-    {
-        self.transaction.is_due(Phase::Prewrite)
-    }
-
-    /// Whether a commit is due.
-    pub fn has_commit(&self) -> bool
-        ensures { result ≡ is_some (due_commit self.now.state) }
-    {
-        self.transaction.is_due(Phase::Commit)
-    }
-
-    /// Whether something of an abort is due.
-    pub fn has_abort(&self) -> bool
-        ensures { result ≡ is_some (due_abort self.now.state) }
-    {
-        self.transaction.is_due(Phase::Abort)
+        &self.transaction
     }
 
     /// What its seat has seen, to be handed to others.
@@ -300,24 +250,11 @@ impl<J: JournalId> Session<J> {
         self.transaction.lock(key)
     }
 
-    /// What its buffer declares under these terms with a number that is drawn for it, which is
-    /// nothing where it is empty.
-    pub fn declaration(
-        &self,
-        alloc: Global,
-        placed: Ts,
-        terms: &Terms,
-    ) -> Result<Option<Declaration>, Fault>
-        ensures ok { IfOk result (λ d. d ≡ declaration self.now.state.start placed self.now.state.buffer terms.now) }
-        ensures err { IfErr result (λ e. e ≡ fault.OutOfMemory) }
-    {
-        self.transaction.declaration(alloc, placed, terms)
-    }
-
     /// Fixes the write set, and, where it is not empty, draws a number for it and records it. It
     /// commits above each commit that its seat knew to be decided before. `TooManyKeys` where it is
-    /// to commit asynchronously and has more than 256 keys, `OracleSpent` where the ticks of its
-    /// seat are spent: the session is then as it was. It takes no memory.
+    /// to commit asynchronously and has more than 256 keys, `OracleSpent` where it has not, the
+    /// set is not empty and the ticks of its seat are spent: the session is then as it was. It
+    /// takes no memory.
     pub fn declare(&mut self, terms: Terms) -> Result<(), Fault>
         requires { is_declared self.old.state ≡ false }
         ensures ok { OnOk result ((exceeds self.old.state.buffer terms ≡ false)
@@ -329,7 +266,8 @@ impl<J: JournalId> Session<J> {
             → IsDrawnAfter self.old.seat.events self.new.seat.events self.new.state.placed) }
         ensures same { OnErr result (self.new ≡ self.old) }
         ensures err { IfErr result (λ e. ((e ≡ fault.TooManyKeys) × (exceeds self.old.state.buffer terms ≡ true))
-            ⊎ ((e ≡ fault.OracleSpent) × (self.old.seat.ticks < 1))) }
+            ⊎ ((e ≡ fault.OracleSpent) × (self.old.seat.ticks < 1) × (exceeds self.old.state.buffer terms ≡ false)
+            × (not_empty self.old.state.buffer ≡ true))) }
     {
         if self.transaction.exceeds(&terms) {
             return Err(Fault::TooManyKeys);
@@ -337,159 +275,5 @@ impl<J: JournalId> Session<J> {
         let placed = record_declared(&mut self.seat, &self.transaction, &terms)?;
         self.transaction.declare(terms, placed);
         Ok(())
-    }
-}
-
-impl<J: JournalId> Session<J> {
-    // Sends a request, once, and learns what is told. What comes of it takes no memory of the
-    // session's.
-    pub(crate) fn ask<S: Sender<Request<J>, Reply<J>>>(
-        &mut self,
-        body: Body,
-        sender: &mut S,
-    ) -> Answering
-        requires way { IsSender J.bounds S.fits S.sends S.keys_between }
-        requires held { IsHeld J.bounds body }
-        requires allowed { Allowed self.old.seat.events body }
-        ensures state { self.new.state ≡ self.old.state }
-        ensures asked { Asks S.sends J.bounds self.old.seat body sender.old sender.new result.response self.new.seat }
-        ensures told { RespondsSo self.new.seat.events body result.response }
-        ensures lock { result.lock ≡ lock_met result.response }
-    {
-        ask_with_lock(&mut self.seat, body, sender)
-    }
-
-    // Sends the request of a phase that is due.
-    fn pursue<S: Sender<Request<J>, Reply<J>>>(
-        &mut self,
-        phase: Phase,
-        due: Due,
-        sender: &mut S,
-    ) -> Result<Option<Answer>, Miss>
-        requires way { IsSender J.bounds S.fits S.sends S.keys_between }
-        requires within { due.index < length self.old.state.buffer }
-        requires allowed { Allowed self.old.seat.events due.body }
-        requires right { IsFor self.old.state phase due }
-        ensures { Sends S.sends J.bounds self.old.seat sender.old (due_walk self.old.state phase (Some due))
-            (self.new.state, result) sender.new self.new.seat }
-    {
-        let Due { index, body } = due;
-        let Answering { response, lock } = self.ask(body, sender);
-        self.transaction.after(phase, index, response, lock)
-    }
-
-    // Sends the request of a phase that is due, where one is.
-    fn send_next<S: Sender<Request<J>, Reply<J>>>(
-        &mut self,
-        alloc: Global,
-        phase: Phase,
-        sender: &mut S,
-    ) -> Result<Option<Answer>, Miss>
-        requires way { IsSender J.bounds S.fits S.sends S.keys_between }
-        ensures { Sends S.sends J.bounds self.old.seat sender.old
-            (due_walk self.old.state phase (due self.old.state phase)) (self.new.state, result)
-            sender.new self.new.seat }
-    {
-        match self.transaction.next(alloc, phase) {
-            Err(_) => Err(Miss::Fault),
-            Ok(None) => Ok(None),
-            Ok(Some(due)) => self.pursue(phase, due, sender),
-        }
-    }
-
-    /// Sends the prewrite that is due: of the first key in buffer order that has no accepted lock.
-    /// None where there is none. Memory that is refused to the session itself sends nothing, and
-    /// leaves all as it was.
-    pub fn prewrite_next<S: Sender<Request<J>, Reply<J>>>(
-        &mut self,
-        alloc: Global,
-        sender: &mut S,
-    ) -> Result<Option<Answer>, Miss>
-        requires way { IsSender J.bounds S.fits S.sends S.keys_between }
-        requires can { is_declared self.old.state ≡ true }
-        ensures { Sends S.sends J.bounds self.old.seat sender.old
-            (due_walk self.old.state phase.Prewrite (due_prewrite self.old.state)) (
-              self.new.state,
-              result,
-            ) sender.new self.new.seat }
-    {
-        self.send_next(alloc, Phase::Prewrite, sender)
-    }
-
-    /// Draws the commit timestamp. `OracleSpent` where the seat's ticks are spent; the session
-    /// is then as it was.
-    pub fn draw_commit(&mut self) -> Result<Ts, Fault>
-        requires { can_draw self.old.state ≡ true }
-        ensures ok { IfOk result (λ c. (self.new.state ≡ record self.old.state { drawn = Some c })
-            × Draws J.bounds self.old.seat c self.new.seat) }
-        ensures spent { IfErr result (λ e. (e ≡ fault.OracleSpent) × (self.old.seat.ticks < 1)
-            × (self.new ≡ self.old)) }
-    {
-        let commit = self.seat.draw(1)?;
-        self.transaction.drew(commit);
-        Ok(commit)
-    }
-
-    /// Sends the commit that is due: of the primary at the drawn timestamp, and once the
-    /// transaction is committed of each key in buffer order. None where there is none. Memory that
-    /// is refused to the session itself sends nothing, and leaves all as it was.
-    pub fn commit_next<S: Sender<Request<J>, Reply<J>>>(
-        &mut self,
-        sender: &mut S,
-    ) -> Result<Option<Answer>, Miss>
-        requires way { IsSender J.bounds S.fits S.sends S.keys_between }
-        requires can { can_commit self.old.state ≡ true }
-        ensures { Sends S.sends J.bounds self.old.seat sender.old
-            (due_walk self.old.state phase.Commit (due_commit self.old.state)) (
-              self.new.state,
-              result,
-            ) sender.new self.new.seat }
-    {
-        let alloc = self.transaction.allocator();
-        self.send_next(alloc, Phase::Commit, sender)
-    }
-
-    /// Sends the request of an abort that is due: what may decide, and once the transaction is
-    /// aborted a rollback of each key that was sent a prewrite. None where there is none. Memory
-    /// that is refused to the session itself sends nothing, and leaves all as it was.
-    pub fn abort_next<S: Sender<Request<J>, Reply<J>>>(
-        &mut self,
-        sender: &mut S,
-    ) -> Result<Option<Answer>, Miss>
-        requires way { IsSender J.bounds S.fits S.sends S.keys_between }
-        requires can { can_abort self.old.state ≡ true }
-        ensures { Sends S.sends J.bounds self.old.seat sender.old
-            (due_walk self.old.state phase.Abort (due_abort self.old.state)) (
-              self.new.state,
-              result,
-            ) sender.new self.new.seat }
-    {
-        let alloc = self.transaction.allocator();
-        self.send_next(alloc, Phase::Abort, sender)
-    }
-
-    /// Asks that the primary's lock live so long after the start, in ticks. It changes nothing of
-    /// the session. Memory that is refused to the session itself sends nothing.
-    pub fn heartbeat<S: Sender<Request<J>, Reply<J>>>(
-        &mut self,
-        ttl: u32,
-        sender: &mut S,
-    ) -> Result<Option<Answer>, Miss>
-        requires way { IsSender J.bounds S.fits S.sends S.keys_between }
-        requires can { has_primary self.old.state ≡ true }
-        ensures { Sends S.sends J.bounds self.old.seat sender.old (heartbeat_walk self.old.state ttl) (
-          self.new.state,
-          result,
-        ) sender.new self.new.seat }
-    {
-        let Ok(body) = self.transaction.heartbeat(ttl) else {
-            return Err(Miss::Fault);
-        };
-        let Answering { response, lock: _ } = self.ask(body, sender);
-        match response {
-            Response::Lost => Err(Miss::Lost),
-            Response::OutOfMemory => Err(Miss::Fault),
-            Response::Answered(answer) => Ok(Some(answer)),
-        }
     }
 }

@@ -8,7 +8,7 @@ use Rattle.tx_recording.specs.declared.recording.Recording.{Recording}
 use Rattle.tx_recording.specs.Recordings.{txns_of, transaction_at}
 use Rattle.tx_recording.specs.Explanations.{IsSession}
 use Rattle.tx_clock.specs.declared.clock.Event.{Event}
-use Rattle.tx_clock.specs.Keeping.{live_in, event_at}
+use Rattle.tx_clock.specs.KeptOrder.{live_in, event_at}
 
 none_some : (p : ℕ) → None ≡ Some p → ⊥
 none_some p e = (cc)
@@ -24,7 +24,8 @@ module _ (r : Recording) (live : List Bool) (starts commits : List ℕ) where
   abbrev pub AreKept : ℕ → Type 0
   AreKept n = (t u : ℕ) → u < n → IsSession r t u → IsTrue (live_in live u) → get_or commits t 0 ≤ get_or starts u 0
 
-  pub above_none : (latest : List ℕ) (n : ℕ) → (transaction_at r n).process ≡ None → AreAbove latest n → AreAbove latest (n + 1)
+  pub above_none : (latest : List ℕ) (n : ℕ) → (transaction_at r n).process ≡ None → AreAbove latest n
+      → AreAbove latest (n + 1)
   above_none latest n none above t p lt is ok = elim (cases_eq t n) [
     | inl same ↦ absurd (none_some p (sym none ∙ ap (λ q. (transaction_at r q).process) (sym same) ∙ is))
     | inr ne ↦ above t p (omega (arith, lt, ne)) is ok
@@ -61,19 +62,21 @@ module _ (r : Recording) (live : List Bool) (starts commits : List ℕ) where
   ]
 
   pub kept_next : (latest : List ℕ) (n p : ℕ) → (transaction_at r n).process ≡ Some p
-      → (IsTrue (live_in live n) → get_or latest p 0 ≤ get_or starts n 0) → AreAbove latest n → AreKept n → AreKept (n + 1)
-  kept_next latest n p of_p own above kept t u lt (q, before, within, of_one, of_other, ok) is_live = elim (cases_eq u n) [
-    | inl same ↦ (
-        let at : q ≡ p = same_some q p (sym of_other ∙ ap (λ z. (transaction_at r z).process) same ∙ of_p) in
-        let up = above t q (omega (arith, before, same)) of_one ok in
-        let old = ap (λ z. get_or latest z 0) at in
-        let P : ℕ → Type 0 = λ z. IsTrue (live_in live z) in
-        let low = own (subst P same is_live) in
-        let s = ap (λ z. get_or starts z 0) same in
-        omega (arith, up, old, low, s)
-        )
-    | inr ne ↦ kept t u (omega (arith, lt, ne)) (q, before, within, of_one, of_other, ok) is_live
-  ]
+      → (IsTrue (live_in live n) → get_or latest p 0 ≤ get_or starts n 0) → AreAbove latest n → AreKept n
+      → AreKept (n + 1)
+  kept_next latest n p of_p own above kept t u lt (q, before, within, of_one, of_other, ok) is_live =
+      elim (cases_eq u n) [
+        | inl same ↦ (
+            let at : q ≡ p = same_some q p (sym of_other ∙ ap (λ z. (transaction_at r z).process) same ∙ of_p) in
+            let up = above t q (omega (arith, before, same)) of_one ok in
+            let old = ap (λ z. get_or latest z 0) at in
+            let P : ℕ → Type 0 = λ z. IsTrue (live_in live z) in
+            let low = own (subst P same is_live) in
+            let s = ap (λ z. get_or starts z 0) same in
+            omega (arith, up, old, low, s)
+            )
+        | inr ne ↦ kept t u (omega (arith, lt, ne)) (q, before, within, of_one, of_other, ok) is_live
+      ]
 
 same_time : (a b : ℕ) → Some a ≡ Some b → a ≡ b
 same_time a b e = grind (arith, e)
@@ -94,7 +97,11 @@ begun_more r live old new n time is began all u b lt is_live at = elim (cases_eq
       (Contains-push old record { time = time; txn = n; ends = false })))
       )
   | inr ne ↦ subst (λ q. Contains q record { time = b; txn = u; ends = false }) (sym is)
-      (Contains-append_left old (record { time = time; txn = n; ends = false } ∷ []) record { time = b; txn = u; ends = false }
+      (Contains-append_left old (record { time = time; txn = n; ends = false } ∷ []) record {
+        time = b;
+        txn = u;
+        ends = false;
+      }
       (all u b (omega (arith, lt, ne)) is_live at))
 ]
 
@@ -114,24 +121,32 @@ ended_more r old new n time is ended all t e lt ok at = elim (cases_eq t n) [
       (Contains-push old record { time = time; txn = n; ends = true })))
       )
   | inr ne ↦ subst (λ q. Contains q record { time = e; txn = t; ends = true }) (sym is)
-      (Contains-append_left old (record { time = time; txn = n; ends = true } ∷ []) record { time = e; txn = t; ends = true }
+      (Contains-append_left old (record { time = time; txn = n; ends = true } ∷ []) record {
+        time = e;
+        txn = t;
+        ends = true;
+      }
       (all t e (omega (arith, lt, ne)) ok at))
 ]
 
-pub kept_push : (first old new : List Event) (one : Event) → new ≡ old ++ one ∷ [] → ((e : Event) → Contains first e → Contains old e)
+pub kept_push : (first old new : List Event) (one : Event) → new ≡ old ++ one ∷ []
+    → ((e : Event) → Contains first e → Contains old e)
     → (e : Event) → Contains first e → Contains new e
-kept_push first old new one is kept e there = subst (λ q. Contains q e) (sym is) (Contains-append_left old (one ∷ []) e (kept e there))
+kept_push first old new one is kept e there =
+    subst (λ q. Contains q e) (sym is) (Contains-append_left old (one ∷ []) e (kept e there))
 
 module _ (events : List Event) (starts commits : List ℕ) where
   abbrev pub AreEnded : ℕ → ℕ → Type 0
-  AreEnded latest n = (i : ℕ) → i < n → (event_at events i).ends ≡ true → get_or commits (event_at events i).txn 0 ≤ latest
+  AreEnded latest n = (i : ℕ) → i < n → (event_at events i).ends ≡ true
+      → get_or commits (event_at events i).txn 0 ≤ latest
 
   abbrev pub AreBegun : ℕ → Type 0
   AreBegun n = (i j : ℕ) → i < j → j < n → (event_at events i).ends ≡ true → (event_at events j).ends ≡ false
       → get_or commits (event_at events i).txn 0 ≤ get_or starts (event_at events j).txn 0
 
   pub ended_next : (latest later n : ℕ) → latest ≤ later
-      → ((event_at events n).ends ≡ true → get_or commits (event_at events n).txn 0 ≤ later) → AreEnded latest n → AreEnded later (n + 1)
+      → ((event_at events n).ends ≡ true → get_or commits (event_at events n).txn 0 ≤ later) → AreEnded latest n
+      → AreEnded later (n + 1)
   ended_next latest later n le own ended i lt is = elim (cases_eq i n) [
     | inl same ↦ (
         let up = own (ap (λ z. (event_at events z).ends) (sym same) ∙ is) in
@@ -141,7 +156,8 @@ module _ (events : List Event) (starts commits : List ℕ) where
     | inr ne ↦ (let up = ended i (omega (arith, lt, ne)) is in omega (arith, up, le))
   ]
 
-  pub begun_next : (latest n : ℕ) → ((event_at events n).ends ≡ false → latest ≤ get_or starts (event_at events n).txn 0)
+  pub begun_next : (latest n : ℕ)
+      → ((event_at events n).ends ≡ false → latest ≤ get_or starts (event_at events n).txn 0)
       → AreEnded latest n → AreBegun n → AreBegun (n + 1)
   begun_next latest n own ended begun i j before lt is_end is_begin = elim (cases_eq j n) [
     | inl same ↦ (

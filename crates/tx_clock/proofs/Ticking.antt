@@ -8,7 +8,7 @@ use Rattle.tx_recording.specs.declared.recording.Transaction.{Transaction}
 use Rattle.tx_recording.specs.Recordings.{txns_of, transaction_at, no_transaction}
 use Rattle.tx_recording.specs.Explanations.{IsEarlier}
 use Rattle.tx_clock.specs.declared.clock.Event.{Event}
-use Rattle.tx_clock.specs.Keeping.{live_in, AreEvents, KeepsEvents, KeepsPairs, event_at}
+use Rattle.tx_clock.specs.KeptOrder.{live_in, AreEvents, KeepsEvents, KeepsPairs, event_at}
 
 ok_fails : Fail ≡ Ok → ⊥
 ok_fails e = (cc)
@@ -17,7 +17,8 @@ ok_fails e = (cc)
 pub is_one : (r : Recording) (t : ℕ) → (transaction_at r t).outcome ≡ Ok → t < txns_of r
 is_one r t is = elim (cases_lt t (txns_of r)) [
   | inl lt ↦ lt
-  | inr past ↦ absurd (ok_fails (sym (ap (λ (q : Transaction). q.outcome) (get_or_past r.transactions.items t no_transaction past)) ∙ is))
+  | inr past ↦ absurd (ok_fails
+      (sym (ap (λ (q : Transaction). q.outcome) (get_or_past r.transactions.items t no_transaction past)) ∙ is))
 ]
 
 none_some : (b : ℕ) → None ≡ Some b → ⊥
@@ -27,7 +28,8 @@ none_some b e = (cc)
 pub began_within : (r : Recording) (u b : ℕ) → (transaction_at r u).began ≡ Some b → u < txns_of r
 began_within r u b is = elim (cases_lt u (txns_of r)) [
   | inl lt ↦ lt
-  | inr past ↦ absurd (none_some b (sym (ap (λ (q : Transaction). q.began) (get_or_past r.transactions.items u no_transaction past)) ∙ is))
+  | inr past ↦ absurd (none_some b
+      (sym (ap (λ (q : Transaction). q.began) (get_or_past r.transactions.items u no_transaction past)) ∙ is))
 ]
 
 pub clock_kept : (r : Recording) (live : List Bool) (events : List Event) (starts commits : List ℕ)

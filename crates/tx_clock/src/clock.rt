@@ -4,7 +4,7 @@ ghost use Rattle.tx_recording.specs.declared.recording.Outcome.TheVariants.{Ok a
 ghost use Rattle.tx_recording.specs.Recordings.{IsRecording, txns_of, transaction_at};
 ghost use Rattle.tx_clock.specs.declared.clock.Event.{Event};
 ghost use Rattle.tx_recording.specs.Explanations.{IsEarlier};
-ghost use Rattle.tx_clock.specs.Keeping.{live_in, AreEvents, KeepsEvents, KeepsPairs};
+ghost use Rattle.tx_clock.specs.KeptOrder.{live_in, AreEvents, KeepsEvents, KeepsPairs};
 
 use crate::sessions::{is_early, later_of, live_at, number_at};
 use std::alloc::{AllocError, Global};
@@ -51,7 +51,8 @@ fn add_begins(
 fn add_ends(events: &mut Vec<Event>, recording: &Recording) -> Result<(), AllocError>
     requires { IsRecording recording.now }
     ensures kept { OnOk result ((e : Event) → Contains events.old.items e → Contains events.new.items e) }
-    ensures has { OnOk result ((t e : ℕ) → t < txns_of recording.now → (transaction_at recording.now t).outcome ≡ Committed
+    ensures has { OnOk result ((t e : ℕ) → t < txns_of recording.now
+        → (transaction_at recording.now t).outcome ≡ Committed
         → (transaction_at recording.now t).ended ≡ Some e
         → Contains events.new.items record { time = e; txn = t; ends = true }) }
 {
@@ -118,7 +119,8 @@ pub(crate) fn keeps_clock(
     commits: &[usize],
 ) -> Result<bool, AllocError>
     requires { IsRecording recording.now }
-    ensures { IfOk result (λ keeps. IsTrue keeps → KeepsPairs (IsEarlier recording.now) live.now starts.now commits.now) }
+    ensures { IfOk result (λ keeps. IsTrue keeps
+        → KeepsPairs (IsEarlier recording.now) live.now starts.now commits.now) }
 {
     let events = events_of(alloc, recording, live)?;
     Ok(keeps_events(events.as_slice(), starts, commits))

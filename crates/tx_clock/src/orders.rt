@@ -2,7 +2,7 @@
 ghost use Rattle.std.specs.Prelude.{◌≡◌, IfOk, IsTrue, false};
 ghost use Rattle.tx_recording.specs.Explanations.{IsSession, IsEarlier, Precedes};
 ghost use Rattle.tx_recording.specs.Recordings.{IsRecording};
-ghost use Rattle.tx_clock.specs.Keeping.{KeepsPairs};
+ghost use Rattle.tx_clock.specs.KeptOrder.{KeepsPairs};
 
 use crate::clock::keeps_clock;
 use crate::sessions::keeps_sessions;

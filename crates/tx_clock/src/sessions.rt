@@ -2,7 +2,7 @@
 ghost use Rattle.std.specs.Prelude.{◌≡◌, ℕ, ◌<◌, ◌≤◌, length, Some, None, IfSome, IfOk, IsTrue, true, false, slice_index};
 ghost use Rattle.tx_recording.specs.Recordings.{IsRecording};
 ghost use Rattle.tx_recording.specs.Explanations.{IsSession};
-ghost use Rattle.tx_clock.specs.Keeping.{live_in, KeepsPairs};
+ghost use Rattle.tx_clock.specs.KeptOrder.{live_in, KeepsPairs};
 
 use std::alloc::{AllocError, Global};
 use tx_recording::Recording;
@@ -76,7 +76,8 @@ pub(crate) fn keeps_sessions(
     starts: &[usize],
     commits: &[usize],
 ) -> Result<bool, AllocError>
-    ensures { IfOk result (λ keeps. IsTrue keeps → KeepsPairs (IsSession recording.now) live.now starts.now commits.now) }
+    ensures { IfOk result (λ keeps. IsTrue keeps
+        → KeepsPairs (IsSession recording.now) live.now starts.now commits.now) }
 {
     let count = recording.transactions.len();
     let mut latest = vec![in alloc; 0; count]?;

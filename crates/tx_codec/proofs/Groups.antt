@@ -7,7 +7,8 @@ use Rattle.tx_codec.proofs.Lists.{same_fronts}
 use Rattle.tx_codec.specs.Keys.{encoded_key, last_group}
 
 -- a whole group, and what the rest of the key is spelled as
-pub encoded_key-group : (group rest : List ℕ) → length group ≡ 8 → encoded_key (group ++ rest) ≡ group ++ 255 ∷ encoded_key rest
+pub encoded_key-group : (group rest : List ℕ) → length group ≡ 8
+    → encoded_key (group ++ rest) ≡ group ++ 255 ∷ encoded_key rest
 unfolding encoded_key
 encoded_key-group (a ∷ b ∷ c ∷ d ∷ e ∷ f ∷ g ∷ h ∷ []) rest l = refl
 encoded_key-group (a ∷ b ∷ c ∷ d ∷ e ∷ f ∷ g ∷ h ∷ x ∷ more) rest l = absurd (omega arith)
@@ -26,35 +27,55 @@ encoded_key-split key le =
     ap encoded_key (sym whole) ∙ encoded_key-group (take 8 key) (drop 8 key) (omega (arith, length-take 8 key))
 
 -- bytes and a marker, written over zeros
-pub group_marked : (part bytes : List ℕ) (marker : ℕ) → length part ≤ 8 → bytes ≡ part ++ replicate (9 - length part) 0 → set bytes 8 marker ≡ (part ++ replicate (8 - length part) 0) ++ marker ∷ []
+pub group_marked : (part bytes : List ℕ) (marker : ℕ) → length part ≤ 8
+    → bytes ≡ part ++ replicate (9 - length part) 0
+    → set bytes 8 marker ≡ (part ++ replicate (8 - length part) 0) ++ marker ∷ []
 group_marked part bytes marker le e =
     let zeros : List ℕ = replicate (8 - length part) 0 in
     let more : 9 - length part ≡ 8 - length part + 1 = omega (arith, le) in
-    let split : replicate (9 - length part) 0 ≡ zeros ++ 0 ∷ [] = ap (λ k. replicate {A = ℕ} k 0) more ∙ sym (replicate-append-replicate (8 - length part) 1 0) in
-    let whole : bytes ≡ (part ++ zeros) ++ 0 ∷ [] = e ∙ ap (λ (t : List ℕ). part ++ t) split ∙ sym (append_assoc part zeros (0 ∷ [])) in
-    let at : length (part ++ zeros) ≡ 8 = omega (arith, length-append part zeros, length-replicate {A = ℕ} (8 - length part) 0) in
-    ap (λ (t : List ℕ). set t 8 marker) whole ∙ ap (λ k. set ((part ++ zeros) ++ 0 ∷ []) k marker) (sym at) ∙ set-append_seam (part ++ zeros) 0 [] marker
+    let split : replicate (9 - length part) 0 ≡ zeros ++ 0 ∷ [] = ap (λ k. replicate {A = ℕ} k 0) more
+    ∙ sym (replicate-append-replicate (8 - length part) 1 0) in
+    let whole : bytes ≡ (part ++ zeros) ++ 0 ∷ [] = e ∙ ap (λ (t : List ℕ). part ++ t) split
+    ∙ sym (append_assoc part zeros (0 ∷ [])) in
+    let at : length (part ++ zeros) ≡ 8 =
+    omega (arith, length-append part zeros, length-replicate {A = ℕ} (8 - length part) 0) in
+    ap (λ (t : List ℕ). set t 8 marker) whole ∙ ap (λ k. set ((part ++ zeros) ++ 0 ∷ []) k marker) (sym at)
+    ∙ set-append_seam (part ++ zeros) 0 [] marker
 
 -- a whole group was written
-pub group_written : (out rest all group : List ℕ) → 8 ≤ length rest → group ≡ (take 8 rest ++ replicate (8 - length (take 8 rest)) 0) ++ 255 ∷ [] → out ++ encoded_key rest ≡ all
+pub group_written : (out rest all group : List ℕ)
+    → 8 ≤ length rest → group ≡ (take 8 rest ++ replicate (8 - length (take 8 rest)) 0) ++ 255 ∷ []
+    → out ++ encoded_key rest ≡ all
     → (out ++ group) ++ encoded_key (drop 8 rest) ≡ all
 group_written out rest all group le e so_far =
     let size : 8 - length (take 8 rest) ≡ 0 = omega (arith, le, length-take 8 rest) in
     let none : replicate (8 - length (take 8 rest)) 0 ≡ [] = ap (λ k. replicate {A = ℕ} k 0) size in
-    let plain : group ≡ take 8 rest ++ 255 ∷ [] = e ∙ ap (λ (z : List ℕ). (take 8 rest ++ z) ++ 255 ∷ []) none ∙ ap (λ (w : List ℕ). w ++ 255 ∷ []) (append-nil (take 8 rest)) in
-    let regrouped : (out ++ (take 8 rest ++ 255 ∷ [])) ++ encoded_key (drop 8 rest) ≡ out ++ (take 8 rest ++ 255 ∷ encoded_key (drop 8 rest)) =
-    append_assoc out (take 8 rest ++ 255 ∷ []) (encoded_key (drop 8 rest)) ∙ ap (λ (x : List ℕ). out ++ x) (append_assoc (take 8 rest) (255 ∷ []) (encoded_key (drop 8 rest))) in
-    ap (λ (g : List ℕ). (out ++ g) ++ encoded_key (drop 8 rest)) plain ∙ regrouped ∙ ap (λ (x : List ℕ). out ++ x) (sym (encoded_key-split rest le)) ∙ so_far
+    let plain : group ≡ take 8 rest ++ 255 ∷ [] =
+    e ∙ ap (λ (z : List ℕ). (take 8 rest ++ z) ++ 255 ∷ []) none
+    ∙ ap (λ (w : List ℕ). w ++ 255 ∷ []) (append-nil (take 8 rest)) in
+    let regrouped : (out ++ (take 8 rest ++ 255 ∷ [])) ++ encoded_key (drop 8 rest) ≡ out
+    ++ (take 8 rest ++ 255 ∷ encoded_key (drop 8 rest)) =
+    append_assoc out (take 8 rest ++ 255 ∷ [])
+    (encoded_key (drop 8 rest))
+    ∙ ap (λ (x : List ℕ). out ++ x) (append_assoc (take 8 rest) (255 ∷ []) (encoded_key (drop 8 rest))) in
+    ap (λ (g : List ℕ). (out ++ g) ++ encoded_key (drop 8 rest)) plain ∙ regrouped
+    ∙ ap (λ (x : List ℕ). out ++ x) (sym (encoded_key-split rest le)) ∙ so_far
 
 -- the last group was written
-pub last_written : (out part all : List ℕ) → length part < 8 → out ++ encoded_key part ≡ all → out ++ last_group part ≡ all
+pub last_written : (out part all : List ℕ) → length part < 8 → out ++ encoded_key part ≡ all
+    → out ++ last_group part ≡ all
 last_written out part all lt so_far = ap (λ (x : List ℕ). out ++ x) (sym (encoded_key-last part lt)) ∙ so_far
 
 -- a last group and its marker
 pub last_group-length : (part : List ℕ) → length part < 8 → length (last_group part) ≡ 9
 last_group-length part lt =
     let zeros : List ℕ = replicate (8 - length part) 0 in
-    omega (arith, length-append (part ++ zeros) ((255 - (8 - length part)) ∷ []), length-append part zeros, length-replicate {A = ℕ} (8 - length part) 0)
+    omega (
+      arith,
+      length-append (part ++ zeros) ((255 - (8 - length part)) ∷ []),
+      length-append part zeros,
+      length-replicate {A = ℕ} (8 - length part) 0,
+    )
 
 -- no key is spelled by less than a group and its marker
 pub encoded_key-long : (key : List ℕ) → 9 ≤ length (encoded_key key)
@@ -72,7 +93,8 @@ pub record Parts (part bytes : List ℕ) (marker : ℕ) : Type 0 where
   pub front : part ≡ take (marker - 247) bytes
   pub pads : drop (marker - 247) bytes ≡ replicate (8 - length part) 0
 
-pub last_group-parts : (part bytes : List ℕ) (marker : ℕ) → length part < 8 → bytes ++ marker ∷ [] ≡ last_group part → Parts part bytes marker
+pub last_group-parts : (part bytes : List ℕ) (marker : ℕ) → length part < 8 → bytes ++ marker ∷ [] ≡ last_group part
+    → Parts part bytes marker
 last_group-parts part bytes marker lt e =
     let zeros : List ℕ = replicate (8 - length part) 0 in
     let ends = same_from_push bytes (part ++ zeros) marker (255 - (8 - length part)) e in
@@ -85,16 +107,19 @@ last_group-parts part bytes marker lt e =
     }
 
 -- a last group, put together from what the marker tells
-pub last_group-made : (bytes : List ℕ) (marker : ℕ) → length bytes ≡ 8 → 247 ≤ marker → marker < 255 → drop (marker - 247) bytes ≡ replicate (8 - (marker - 247)) 0
+pub last_group-made : (bytes : List ℕ) (marker : ℕ) → length bytes ≡ 8 → 247 ≤ marker → marker < 255
+    → drop (marker - 247) bytes ≡ replicate (8 - (marker - 247)) 0
     → (length (take (marker - 247) bytes) < 8) × (bytes ++ marker ∷ [] ≡ last_group (take (marker - 247) bytes))
 last_group-made bytes marker size low high pads =
     let n = marker - 247 in
     let count : length (take n bytes) ≡ n = omega (arith, length-take n bytes) in
-    let zeros : replicate (8 - length (take n bytes)) 0 ≡ drop n bytes = ap (λ (k : ℕ). replicate (8 - k) 0) count ∙ sym pads in
+    let zeros : replicate (8 - length (take n bytes)) 0 ≡ drop n bytes = ap (λ (k : ℕ). replicate (8 - k) 0) count
+    ∙ sym pads in
     let last : 255 - (8 - length (take n bytes)) ≡ marker = omega arith in (
       omega arith,
       sym (ap (λ (z : List ℕ). (take n bytes ++ z) ++ (255 - (8 - length (take n bytes))) ∷ []) zeros
-          ∙ ap (λ (w : List ℕ). w ++ (255 - (8 - length (take n bytes))) ∷ []) (take-append-drop n bytes) ∙ ap (λ (m : ℕ). bytes ++ m ∷ []) last),
+          ∙ ap (λ (w : List ℕ). w ++ (255 - (8 - length (take n bytes))) ∷ []) (take-append-drop n bytes)
+          ∙ ap (λ (m : ℕ). bytes ++ m ∷ []) last),
     )
 
 -- the last group of no key but the one
@@ -106,27 +131,40 @@ last_group-one a b la lb e =
     p.front ∙ sym q.front
 
 -- a key whose spelling begins with a whole group
-pub encoded_key-whole : (key group rest : List ℕ) → length group ≡ 8 → encoded_key key ≡ group ++ 255 ∷ rest → (more : List ℕ) × (key ≡ group ++ more) × (rest ≡ encoded_key more)
+pub encoded_key-whole : (key group rest : List ℕ)
+    → length group ≡ 8 → encoded_key key ≡ group ++ 255 ∷ rest → (more : List ℕ) × (key ≡ group ++ more)
+    × (rest ≡ encoded_key more)
 encoded_key-whole key group rest l e = elim (cases_lt (length key) 8) [
   | inl lt ↦
       let zeros : List ℕ = replicate (8 - length key) 0 in
-      let whole : (key ++ zeros) ++ (255 - (8 - length key)) ∷ [] ≡ group ++ 255 ∷ rest = sym (encoded_key-last key lt) ∙ e in
-      let same = same_fronts (key ++ zeros) group ((255 - (8 - length key)) ∷ []) (255 ∷ rest) (omega (arith, length-append key zeros, length-replicate {A = ℕ} (8 - length key) 0)) whole in
+      let whole : (key ++ zeros) ++ (255 - (8 - length key)) ∷ [] ≡ group ++ 255 ∷ rest = sym (encoded_key-last key lt)
+      ∙ e in
+      let same = same_fronts (key ++ zeros) group ((255 - (8 - length key))
+      ∷ []) (255 ∷ rest) (omega (arith, length-append key zeros, length-replicate {A = ℕ} (8 - length key) 0))
+      whole in
       let marker : 255 - (8 - length key) ≡ 255 = ap (λ (w : List ℕ). get_or w 0 0) same.1 in
       absurd (omega arith)
   | inr le ↦
-      let whole : take 8 key ++ 255 ∷ encoded_key (drop 8 key) ≡ group ++ 255 ∷ rest = sym (encoded_key-split key le) ∙ e in
-      let same = same_fronts (take 8 key) group (255 ∷ encoded_key (drop 8 key)) (255 ∷ rest) (omega (arith, length-take 8 key)) whole in
+      let whole : take 8 key ++ 255 ∷ encoded_key (drop 8 key) ≡ group ++ 255 ∷ rest = sym (encoded_key-split key le)
+      ∙ e in
+      let same = same_fronts (take 8 key) group (255 ∷ encoded_key (drop 8 key)) (255 ∷ rest)
+      (omega (arith, length-take 8 key)) whole in
       let after : encoded_key (drop 8 key) ≡ rest = cc (same.1) in
       (drop 8 key, sym (take-append-drop 8 key) ∙ ap (λ (w : List ℕ). w ++ drop 8 key) same.0, sym after)
 ]
 
 -- a key whose spelling is longer than a group has a whole one
-pub encoded_key-more : (key rest : List ℕ) → rest ≡ encoded_key key → 9 < length rest → (8 ≤ length key) × (get_or rest 8 0 ≡ 255)
+pub encoded_key-more : (key rest : List ℕ) → rest ≡ encoded_key key → 9 < length rest
+    → (8 ≤ length key) × (get_or rest 8 0 ≡ 255)
 encoded_key-more key rest e long = elim (cases_lt (length key) 8) [
   | inl lt ↦ let same = ap length (e ∙ encoded_key-last key lt) in
       let l = last_group-length key lt in absurd (omega arith)
-  | inr le ↦ (le, ap (λ (w : List ℕ). get_or w 8 0) (e ∙ encoded_key-split key le) ∙ get_or_at (take 8 key) 255 (encoded_key (drop 8 key)) 0 8 (omega (arith, length-take 8 key)))
+  | inr le ↦ (
+    le,
+    ap (λ (w : List ℕ). get_or w 8 0)
+        (e ∙ encoded_key-split key le) ∙ get_or_at (take 8 key) 255 (encoded_key (drop 8 key)) 0 8
+        (omega (arith, length-take 8 key)),
+  )
 ]
 
 -- a key whose spelling is no longer than a group is of fewer bytes

@@ -26,30 +26,39 @@ number_2 : (bytes : List ℕ) → 2 ≤ length bytes → big_number 2 (take 2 by
 number_2 (a ∷ b ∷ rest) le = refl
 number_2 short le = absurd (omega arith)
 
-pub takes_8 : (bytes : List ℕ) → AreBytes bytes → 8 ≤ length bytes → Takes (λ n. n < 2 ^ 64) (to_be_bytes w64) bytes (big_number 8 bytes) (drop 8 bytes)
+pub takes_8 : (bytes : List ℕ)
+    → AreBytes bytes → 8 ≤ length bytes
+    → Takes (λ n. n < 2 ^ 64) (to_be_bytes w64) bytes (big_number 8 bytes) (drop 8 bytes)
 takes_8 bytes fits le =
     let front : to_be_bytes w64 (big_number 8 bytes) ≡ take 8 bytes =
-    ap (to_be_bytes w64) (sym (number_8 bytes le)) ∙ read_8 (take 8 bytes) (omega (arith, length-take 8 bytes)) (AreBytes-take 8 bytes fits) in
+    ap (to_be_bytes w64) (sym (number_8 bytes le)) ∙ read_8 (take 8 bytes) (omega (arith, length-take 8 bytes))
+    (AreBytes-take 8 bytes fits) in
     record {
       is = below_8 bytes fits;
       spelled = sym (ap (λ (w : List ℕ). w ++ drop 8 bytes) front ∙ take-append-drop 8 bytes);
       only = λ n after lt e. (sym (again_8 n lt) ∙ sym (ap (big_number 8) e), sym (ap (drop 8) e));
     }
 
-pub takes_4 : (bytes : List ℕ) → AreBytes bytes → 4 ≤ length bytes → Takes (λ n. n < 2 ^ 32) (to_be_bytes w32) bytes (big_number 4 bytes) (drop 4 bytes)
+pub takes_4 : (bytes : List ℕ)
+    → AreBytes bytes → 4 ≤ length bytes
+    → Takes (λ n. n < 2 ^ 32) (to_be_bytes w32) bytes (big_number 4 bytes) (drop 4 bytes)
 takes_4 bytes fits le =
     let front : to_be_bytes w32 (big_number 4 bytes) ≡ take 4 bytes =
-    ap (to_be_bytes w32) (sym (number_4 bytes le)) ∙ read_4 (take 4 bytes) (omega (arith, length-take 4 bytes)) (AreBytes-take 4 bytes fits) in
+    ap (to_be_bytes w32) (sym (number_4 bytes le)) ∙ read_4 (take 4 bytes) (omega (arith, length-take 4 bytes))
+    (AreBytes-take 4 bytes fits) in
     record {
       is = below_4 bytes fits;
       spelled = sym (ap (λ (w : List ℕ). w ++ drop 4 bytes) front ∙ take-append-drop 4 bytes);
       only = λ n after lt e. (sym (again_4 n lt) ∙ sym (ap (big_number 4) e), sym (ap (drop 4) e));
     }
 
-pub takes_2 : (bytes : List ℕ) → AreBytes bytes → 2 ≤ length bytes → Takes (λ n. n < 2 ^ 16) (to_be_bytes w16) bytes (big_number 2 bytes) (drop 2 bytes)
+pub takes_2 : (bytes : List ℕ)
+    → AreBytes bytes → 2 ≤ length bytes
+    → Takes (λ n. n < 2 ^ 16) (to_be_bytes w16) bytes (big_number 2 bytes) (drop 2 bytes)
 takes_2 bytes fits le =
     let front : to_be_bytes w16 (big_number 2 bytes) ≡ take 2 bytes =
-    ap (to_be_bytes w16) (sym (number_2 bytes le)) ∙ read_2 (take 2 bytes) (omega (arith, length-take 2 bytes)) (AreBytes-take 2 bytes fits) in
+    ap (to_be_bytes w16) (sym (number_2 bytes le)) ∙ read_2 (take 2 bytes) (omega (arith, length-take 2 bytes))
+    (AreBytes-take 2 bytes fits) in
     record {
       is = below_2 bytes fits;
       spelled = sym (ap (λ (w : List ℕ). w ++ drop 2 bytes) front ∙ take-append-drop 2 bytes);

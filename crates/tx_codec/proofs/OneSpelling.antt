@@ -65,24 +65,32 @@ half_one a b s t p q e = sym (again_4 a p) ∙ ap (big_number 4) e ∙ again_4 b
 
 key_one : (a b : Key) (s t : List ℕ) → IsKey a → IsKey b → key_bytes a ++ s ≡ key_bytes b ++ t → (a ≡ b) × (s ≡ t)
 key_one a b s t p q e =
-    let len : length a ≡ length b = sym (again_2 (length a) (omega (arith, p.1))) ∙ ap (big_number 2) e ∙ again_2 (length b) (omega (arith, q.1)) in
+    let len : length a ≡ length b =
+    sym (again_2 (length a) (omega (arith, p.1))) ∙ ap (big_number 2) e ∙ again_2 (length b) (omega (arith, q.1)) in
     same_fronts a b s t len (ap (drop 2) e)
 
-keys_one : (a b : List Key) (s t : List ℕ) → AllByRecursion IsKey a → AllByRecursion IsKey b → length a ≡ length b → flat_map key_bytes a ++ s ≡ flat_map key_bytes b ++ t → (a ≡ b) × (s ≡ t)
+keys_one : (a b : List Key) (s t : List ℕ) → AllByRecursion IsKey a
+    → AllByRecursion IsKey b → length a ≡ length b → flat_map key_bytes a ++ s ≡ flat_map key_bytes b ++ t
+    → (a ≡ b) × (s ≡ t)
 keys_one [] [] s t p q l e = (refl, e)
 keys_one [] (y ∷ ys) s t p q l e = absurd (omega (arith, l))
 keys_one (x ∷ xs) [] s t p q l e = absurd (omega (arith, l))
 keys_one (x ∷ xs) (y ∷ ys) s t p q l e =
-    let first = key_one x y (flat_map key_bytes xs ++ s) (flat_map key_bytes ys ++ t) p.0 q.0 (sym (append_assoc (key_bytes x) (flat_map key_bytes xs) s) ∙ e ∙ append_assoc (key_bytes y) (flat_map key_bytes ys) t) in
+    let first = key_one x y (flat_map key_bytes xs ++ s) (flat_map key_bytes ys ++ t) p.0 q.0
+    (sym (append_assoc (key_bytes x) (flat_map key_bytes xs) s) ∙ e
+    ∙ append_assoc (key_bytes y) (flat_map key_bytes ys) t) in
     let rest = keys_one xs ys s t p.1 q.1 (omega (arith, l)) first.1 in
     ((λ i. first.0 i ∷ rest.0 i), rest.1)
 
-others_one : (a b : LockMode) (s t : List ℕ) → IsMode a → IsMode b → mode_of a ≡ mode_of b → others_bytes a ++ s ≡ others_bytes b ++ t → (a ≡ b) × (s ≡ t)
+others_one : (a b : LockMode) (s t : List ℕ) → IsMode a → IsMode b → mode_of a ≡ mode_of b
+    → others_bytes a ++ s ≡ others_bytes b ++ t → (a ≡ b) × (s ≡ t)
 others_one TwoPhase TwoPhase s t p q m e = (refl, e)
 others_one TwoPhase (Async others) s t p q m e = absurd (cc m)
 others_one (Async others) TwoPhase s t p q m e = absurd (cc m)
 others_one (Async xs) (Async ys) s t p q m e =
-    let len : length xs ≡ length ys = sym (again_2 (length xs) (omega (arith, p.0))) ∙ ap (big_number 2) e ∙ again_2 (length ys) (omega (arith, q.0)) in
+    let len : length xs ≡ length ys =
+    sym (again_2 (length xs) (omega (arith, p.0))) ∙ ap (big_number 2) e
+    ∙ again_2 (length ys) (omega (arith, q.0)) in
     let both = keys_one xs ys s t p.1 q.1 len (ap (drop 2) e) in
     (ap Async both.0, both.1)
 
@@ -106,26 +114,46 @@ commit_one : (a b : CommitRec) → IsCommit a → IsCommit b → commit_bytes a 
 commit_one a b p q e =
     let kinds = kind_one (stored_kind a.mutation) (stored_kind b.mutation) (ap (λ (x : List ℕ). get_or x 0 0) e) in
     let marks = mark_one a.overlapped_rollback b.overlapped_rollback (ap (λ (x : List ℕ). get_or x 1 0) e) in
-    let starts = word_one a.start b.start (value_bytes a.mutation) (value_bytes b.mutation) p.start q.start (ap (drop 2) e) in
+    let starts = word_one a.start b.start (value_bytes a.mutation) (value_bytes b.mutation) p.start q.start
+    (ap (drop 2) e) in
     let values = value_one a.mutation b.mutation kinds (ap (drop 10) e) in
     λ i. record { mutation = values i; start = starts i; overlapped_rollback = marks i }
 
 pub one_write : (a b : WriteRec) → IsWrite a → IsWrite b → write_bytes a ≡ write_bytes b → a ≡ b
 one_write (Commit a) (Commit b) p q e = ap Commit (commit_one a b p q e)
-one_write (Commit a) (Rollback t) p q e = absurd (kind_no_rollback (stored_kind a.mutation) (ap (λ (x : List ℕ). get_or x 0 0) e))
-one_write (Rollback t) (Commit b) p q e = absurd (kind_no_rollback (stored_kind b.mutation) (sym (ap (λ (x : List ℕ). get_or x 0 0) e)))
-one_write (Rollback s) (Rollback t) p q e = ap Rollback (sym (again_8 s p) ∙ ap (λ (x : List ℕ). big_number 8 (drop 2 x)) e ∙ again_8 t q)
+one_write (Commit a) (Rollback t) p q e =
+    absurd (kind_no_rollback (stored_kind a.mutation) (ap (λ (x : List ℕ). get_or x 0 0) e))
+one_write (Rollback t) (Commit b) p q e =
+    absurd (kind_no_rollback (stored_kind b.mutation) (sym (ap (λ (x : List ℕ). get_or x 0 0) e)))
+one_write (Rollback s) (Rollback t) p q e =
+    ap Rollback (sym (again_8 s p) ∙ ap (λ (x : List ℕ). big_number 8 (drop 2 x)) e ∙ again_8 t q)
 
 pub one_lock : (a b : LockRec) → IsLock a → IsLock b → lock_bytes a ≡ lock_bytes b → a ≡ b
 one_lock a b p q e =
     let kinds = kind_one (stored_kind a.mutation) (stored_kind b.mutation) (ap (λ (x : List ℕ). get_or x 0 0) e) in
     let modes = mode_one (mode_of a.mode) (mode_of b.mode) (ap (λ (x : List ℕ). get_or x 1 0) e) in
-    let starts : a.start ≡ b.start = sym (again_8 a.start p.start) ∙ ap (λ (x : List ℕ). big_number 8 (drop 2 x)) e ∙ again_8 b.start q.start in
-    let mins : a.min ≡ b.min = sym (again_8 a.min p.min) ∙ ap (λ (x : List ℕ). big_number 8 (drop 10 x)) e ∙ again_8 b.min q.min in
-    let ttls : a.ttl ≡ b.ttl = sym (again_4 a.ttl p.ttl) ∙ ap (λ (x : List ℕ). big_number 4 (drop 18 x)) e ∙ again_4 b.ttl q.ttl in
-    let from_primary : key_bytes a.primary ++ (others_bytes a.mode ++ value_bytes a.mutation) ≡ key_bytes b.primary ++ (others_bytes b.mode ++ value_bytes b.mutation) =
-    sym (append_assoc (key_bytes a.primary) (others_bytes a.mode) (value_bytes a.mutation)) ∙ ap (drop 22) e ∙ append_assoc (key_bytes b.primary) (others_bytes b.mode) (value_bytes b.mutation) in
-    let primaries = key_one a.primary b.primary (others_bytes a.mode ++ value_bytes a.mutation) (others_bytes b.mode ++ value_bytes b.mutation) p.primary q.primary from_primary in
-    let lists = others_one a.mode b.mode (value_bytes a.mutation) (value_bytes b.mutation) p.mode q.mode modes primaries.1 in
+    let starts : a.start ≡ b.start = sym (again_8 a.start p.start) ∙ ap (λ (x : List ℕ). big_number 8 (drop 2 x)) e
+    ∙ again_8 b.start q.start in
+    let mins : a.min ≡ b.min = sym (again_8 a.min p.min) ∙ ap (λ (x : List ℕ). big_number 8 (drop 10 x)) e
+    ∙ again_8 b.min q.min in
+    let ttls : a.ttl ≡ b.ttl = sym (again_4 a.ttl p.ttl) ∙ ap (λ (x : List ℕ). big_number 4 (drop 18 x)) e
+    ∙ again_4 b.ttl q.ttl in
+    let from_primary : key_bytes a.primary
+    ++ (others_bytes a.mode ++ value_bytes a.mutation) ≡ key_bytes b.primary
+    ++ (others_bytes b.mode ++ value_bytes b.mutation) =
+    sym (append_assoc (key_bytes a.primary) (others_bytes a.mode) (value_bytes a.mutation)) ∙ ap (drop 22) e
+    ∙ append_assoc (key_bytes b.primary) (others_bytes b.mode) (value_bytes b.mutation) in
+    let primaries = key_one a.primary b.primary
+    (others_bytes a.mode ++ value_bytes a.mutation) (others_bytes b.mode ++ value_bytes b.mutation) p.primary
+    q.primary from_primary in
+    let lists = others_one a.mode b.mode (value_bytes a.mutation) (value_bytes b.mutation) p.mode q.mode modes
+    primaries.1 in
     let values = value_one a.mutation b.mutation kinds lists.1 in
-    λ i. record { mutation = values i; mode = lists.0 i; start = starts i; min = mins i; ttl = ttls i; primary = primaries.0 i }
+    λ i. record {
+      mutation = values i;
+      mode = lists.0 i;
+      start = starts i;
+      min = mins i;
+      ttl = ttls i;
+      primary = primaries.0 i;
+    }

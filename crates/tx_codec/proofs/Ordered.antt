@@ -36,7 +36,8 @@ next_group (x ∷ xs) = refl
 encoded_key-tail : (key : List ℕ) → encoded_key key ≡ tail_from 8 key
 unfolding encoded_key
 encoded_key-tail (a ∷ b ∷ c ∷ d ∷ e ∷ f ∷ g ∷ h ∷ rest) =
-    ap (λ (w : List ℕ). a ∷ b ∷ c ∷ d ∷ e ∷ f ∷ g ∷ h ∷ w) (ap (λ (w : List ℕ). 255 ∷ w) (encoded_key-tail rest) ∙ sym (next_group rest))
+    ap (λ (w : List ℕ). a ∷ b ∷ c ∷ d ∷ e ∷ f ∷ g ∷ h ∷ w) (ap (λ (w : List ℕ). 255 ∷ w) (encoded_key-tail rest)
+    ∙ sym (next_group rest))
 encoded_key-tail part = refl
 
 same_front : (p x y : List ℕ) → compare (p ++ x) (p ++ y) ≡ compare x y
@@ -59,7 +60,8 @@ tail_above (suc n) m (zero ∷ ys) s t le lt = tail_above n m ys s t (omega arit
 tail_above (suc n) m (suc y ∷ ys) s t le lt = rw (below 0 (suc y) (omega arith)) refl
 
 -- a key that ends before another goes on
-ends_first : (n y : ℕ) (ys s t : List ℕ) → n ≤ 7 → compare (pads (suc n) (255 - suc n) ++ s) (y ∷ (tail_from n ys ++ t)) ≡ Less
+ends_first : (n y : ℕ) (ys s t : List ℕ) → n ≤ 7
+    → compare (pads (suc n) (255 - suc n) ++ s) (y ∷ (tail_from n ys ++ t)) ≡ Less
 ends_first n zero ys s t le = tail_above n (255 - suc n) ys s t (omega arith) (omega arith)
 ends_first n (suc y) ys s t le = rw (below 0 (suc y) (omega arith)) refl
 
@@ -72,12 +74,19 @@ then_assoc Less b c = refl
 then_assoc Equal b c = refl
 then_assoc Greater b c = refl
 
-tails_order : (n : ℕ) (a b s t : List ℕ) → n ≤ 8 → compare (tail_from n a ++ s) (tail_from n b ++ t) ≡ ordering_then (compare a b) (compare s t)
+tails_order : (n : ℕ) (a b s t : List ℕ) → n ≤ 8
+    → compare (tail_from n a ++ s) (tail_from n b ++ t) ≡ ordering_then (compare a b) (compare s t)
 tails_order n [] [] s t le = same_front (ending n) s t
 tails_order n [] (y ∷ ys) s t le = shorter n y ys s t le
-tails_order n (x ∷ xs) [] s t le = nat_list_cmp_total.antisymm (tail_from n (x ∷ xs) ++ s) (tail_from n [] ++ t) ∙ ap ordering_reverse (shorter n x xs t s le)
-tails_order zero (x ∷ xs) (y ∷ ys) s t le = ap (ordering_then (nat_cmp x y)) (tails_order 7 xs ys s t (omega arith)) ∙ then_assoc (nat_cmp x y) (compare xs ys) (compare s t)
-tails_order (suc n) (x ∷ xs) (y ∷ ys) s t le = ap (ordering_then (nat_cmp x y)) (tails_order n xs ys s t (omega arith)) ∙ then_assoc (nat_cmp x y) (compare xs ys) (compare s t)
+tails_order n (x ∷ xs) [] s t le =
+    nat_list_cmp_total.antisymm (tail_from n (x ∷ xs) ++ s) (tail_from n [] ++ t)
+    ∙ ap ordering_reverse (shorter n x xs t s le)
+tails_order zero (x ∷ xs) (y ∷ ys) s t le =
+    ap (ordering_then (nat_cmp x y)) (tails_order 7 xs ys s t (omega arith))
+    ∙ then_assoc (nat_cmp x y) (compare xs ys) (compare s t)
+tails_order (suc n) (x ∷ xs) (y ∷ ys) s t le =
+    ap (ordering_then (nat_cmp x y)) (tails_order n xs ys s t (omega arith))
+    ∙ then_assoc (nat_cmp x y) (compare xs ys) (compare s t)
 
 then_equal : (o : Ordering) → ordering_then o Equal ≡ o
 then_equal Less = refl
@@ -86,7 +95,8 @@ then_equal Greater = refl
 
 pub keys_keep_order : KeysKeepOrder
 keys_keep_order a b =
-    let with_nothing : compare (tail_from 8 a ++ []) (tail_from 8 b ++ []) ≡ ordering_then (compare a b) Equal = tails_order 8 a b [] [] (omega arith) in
+    let with_nothing : compare (tail_from 8 a ++ []) (tail_from 8 b ++ []) ≡ ordering_then (compare a b) Equal =
+    tails_order 8 a b [] [] (omega arith) in
     ap (λ (w : List ℕ). compare w (encoded_key b)) (encoded_key-tail a ∙ sym (append-nil (tail_from 8 a)))
     ∙ ap (compare (tail_from 8 a ++ [])) (encoded_key-tail b ∙ sym (append-nil (tail_from 8 b)))
     ∙ with_nothing ∙ then_equal (compare a b)
@@ -94,6 +104,8 @@ keys_keep_order a b =
 pub versions_keep_order : VersionsKeepOrder
 versions_keep_order a b s t hs ht =
     ap (λ (w : List ℕ). compare (w ++ encoded_timestamp s) (encoded_version b t)) (encoded_key-tail a)
-    ∙ ap (λ (w : List ℕ). compare (tail_from 8 a ++ encoded_timestamp s) (w ++ encoded_timestamp t)) (encoded_key-tail b)
+    ∙ ap (λ (w : List ℕ). compare (tail_from 8 a ++ encoded_timestamp s) (w ++ encoded_timestamp t))
+    (encoded_key-tail b)
     ∙ tails_order 8 a b (encoded_timestamp s) (encoded_timestamp t) (omega arith)
-    ∙ ap (ordering_then (compare a b)) (words_order (2 ^ 64 - 1 - s) (2 ^ 64 - 1 - t) (omega arith) (omega arith) ∙ complements_order s t hs ht)
+    ∙ ap (ordering_then (compare a b)) (words_order (2 ^ 64 - 1 - s) (2 ^ 64 - 1 - t) (omega arith) (omega arith)
+    ∙ complements_order s t hs ht)

@@ -1,8 +1,8 @@
 -- What the readers of a record's parts promise. Only this crate's own clauses cite it.
 use Rattle.std.specs.Prelude.{◌≡◌, ◌≢◌, ℕ, List, ◌++◌, Result, Ok, Err}
 use Rattle.std.specs.Borrow.{Bor}
-use Rattle.tx_codec.specs.declared.reading.Unread.{Unread}
-use Rattle.tx_codec.specs.declared.reading.Unread.TheVariants.{Malformed, OutOfMemory}
+use Rattle.tx_codec.specs.declared.readers.Unread.{Unread}
+use Rattle.tx_codec.specs.declared.readers.Unread.TheVariants.{Malformed, OutOfMemory}
 
 -- Nothing was read: no value of those that `Is` names is spelled at the front of the bytes,
 -- or memory ran out.
@@ -19,6 +19,6 @@ pub record Takes {X : Type 0} (Is : X → Type 0) (spelling : X
   pub only : (x : X) (after : List ℕ) → Is x → bytes ≡ spelling x ++ after → (x ≡ value) × (after ≡ rest)
 
 -- what a reader answers of the bytes
-abbrev pub Reads : {X : Type 0} → (X → Type 0) → (X → List ℕ) → List ℕ → Result (X × Bor (List ℕ)) Unread → Type 0
-Reads Is spelling bytes (Ok found) = Takes Is spelling bytes found.0 found.1.now
-Reads Is spelling bytes (Err e) = Fails Is spelling bytes e
+abbrev pub ReadsBytes : {X : Type 0} → (X → Type 0) → (X → List ℕ) → List ℕ → Result (X × Bor (List ℕ)) Unread → Type 0
+ReadsBytes Is spelling bytes (Ok found) = Takes Is spelling bytes found.0 found.1.now
+ReadsBytes Is spelling bytes (Err e) = Fails Is spelling bytes e

@@ -7,11 +7,11 @@
 mod key;
 mod marks;
 mod order;
-mod reading;
+mod readers;
 mod records;
-mod writing;
+mod writers;
 
 pub use key::{decode_key, decode_version, encode_key, encode_rest, encode_version};
 pub use order::{key_order, version_order};
 pub use records::{decode_lock, decode_write, encode_lock, encode_write};
-pub use writing::{append_keys, keys_len, value_len};
+pub use writers::{append_keys, keys_len, value_len};

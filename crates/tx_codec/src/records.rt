@@ -3,15 +3,15 @@
 ghost use Rattle.std.specs.Prelude.{◌≡◌, IfOk, IfErr, IfSome};
 ghost use Rattle.tx_types.specs.declared.lock.LockRec.{LockRec};
 ghost use Rattle.tx_types.specs.declared.write.WriteRec.{WriteRec};
-ghost use Rattle.tx_codec.specs.Readers.{Reads};
+ghost use Rattle.tx_codec.specs.Readers.{ReadsBytes};
 ghost use Rattle.tx_codec.specs.Records.{IsLock, IsCommit, IsWrite, lock_bytes, commit_bytes, write_bytes};
 
 use crate::marks::{ASYNC, ROLLBACK, TWO_PHASE};
-use crate::reading::{
+use crate::readers::{
     Unread, take_key, take_kind, take_mark, take_mode, take_mutation, take_others, take_rollback,
     take_u32, take_u64,
 };
-use crate::writing::{append_key, append_keys, append_value, keys_len, kind_byte, value_len};
+use crate::writers::{append_key, append_keys, append_value, keys_len, kind_byte, value_len};
 use std::alloc::{AllocError, Global};
 use tx_types::{CommitRec, Fault, LockMode, LockRec, Ts, WriteRec};
 
@@ -40,7 +40,7 @@ pub fn encode_lock(alloc: Global, lock: &LockRec) -> Result<Vec<u8>, AllocError>
 
 /// A lock record at the front of the bytes.
 fn take_lock(alloc: Global, bytes: &[u8]) -> Result<(LockRec, &[u8]), Unread>
-    ensures { Reads IsLock lock_bytes bytes.now result }
+    ensures { ReadsBytes IsLock lock_bytes bytes.now result }
 {
     let (kind, rest) = take_kind(bytes)?;
     let (mode, rest) = take_mode(rest)?;
@@ -106,7 +106,7 @@ pub fn encode_write(alloc: Global, rec: &WriteRec) -> Result<Vec<u8>, AllocError
 
 /// The write record of a commit at the front of the bytes.
 fn take_commit(alloc: Global, bytes: &[u8]) -> Result<(CommitRec, &[u8]), Unread>
-    ensures { Reads IsCommit commit_bytes bytes.now result }
+    ensures { ReadsBytes IsCommit commit_bytes bytes.now result }
 {
     let (kind, rest) = take_kind(bytes)?;
     let (overlapped_rollback, rest) = take_mark(rest)?;
@@ -122,7 +122,7 @@ fn take_commit(alloc: Global, bytes: &[u8]) -> Result<(CommitRec, &[u8]), Unread
 
 /// A write record at the front of the bytes.
 fn take_write(alloc: Global, bytes: &[u8]) -> Result<(WriteRec, &[u8]), Unread>
-    ensures { Reads IsWrite write_bytes bytes.now result }
+    ensures { ReadsBytes IsWrite write_bytes bytes.now result }
 {
     if let [ROLLBACK, rest @ ..] = bytes {
         let (start, rest) = take_rollback(rest)?;

@@ -134,151 +134,147 @@ fn file<'a>(alloc: Global) -> Arg<'a> {
         .help("The file to read; - or nothing is standard input")
 }
 
-fn check<'a>(alloc: Global) -> Result<Command<'a>, Error> {
-    let why = Arg::new(alloc, "why")
-        .long("why")
+// What is asked for by its name alone.
+fn flag<'a>(alloc: Global, name: &'a str, help: &'a str) -> Arg<'a> {
+    Arg::new(alloc, name)
+        .long(name)
         .action(ArgAction::SetTrue)
-        .help("Tells after a no why the machine does not make that step");
-    let all = Arg::new(alloc, "all")
-        .long("all")
-        .action(ArgAction::SetTrue)
-        .help("Goes on after a no, as if that line were not there");
-    let command = Command::new(alloc, "check")
-        .about(help::CHECK_ABOUT)
-        .after_help(help::CHECK_HELP)
-        .arg(why)?
-        .arg(all)?
-        .arg(file(alloc))?;
-    Ok(command)
+        .help(help)
 }
 
-fn simulate<'a>(alloc: Global) -> Result<Command<'a>, Error> {
-    let checked = Arg::new(alloc, "check")
-        .long("check")
-        .action(ArgAction::SetTrue)
-        .help("Writes the machine's steps of the run after its replies, and that they are one");
-    let steps = Arg::new(alloc, "steps")
-        .long("steps")
-        .action(ArgAction::SetTrue)
-        .help("Writes the machine's steps of the run alone, as a trace for txkv check")
-        .conflicts_with("check")?;
-    let beside = Arg::new(alloc, "beside")
-        .long("beside")
-        .action(ArgAction::SetTrue)
-        .help("With --steps, writes each step beside the number of the line that made it")
-        .requires_arg("steps")?;
+// A command with one more argument, if there was memory for that.
+fn with<'a>(
+    command: Command<'a>,
+    arg: Result<Arg<'a>, AllocError>,
+) -> Result<Command<'a>, AllocError> {
+    command.arg(arg?)
+}
+
+// A command with one more below it, if there was memory for that.
+fn with_command<'a>(
+    command: Command<'a>,
+    below: Result<Command<'a>, AllocError>,
+) -> Result<Command<'a>, AllocError> {
+    command.subcommand(below?)
+}
+
+fn check<'a>(alloc: Global) -> Result<Command<'a>, AllocError> {
+    let why = "Tells after a no why the machine does not make that step";
+    let all = "Goes on after a no, as if that line were not there";
+    Command::new(alloc, "check")
+        .about(help::CHECK_ABOUT)
+        .after_help(help::CHECK_HELP)
+        .arg(flag(alloc, "why", why))?
+        .arg(flag(alloc, "all", all))?
+        .arg(file(alloc))
+}
+
+// The machine's steps alone.
+fn steps<'a>(alloc: Global) -> Result<Arg<'a>, AllocError> {
+    let help = "Writes the machine's steps of the run alone, as a trace for txkv check";
+    flag(alloc, "steps", help).conflicts_with("check")
+}
+
+// The line beside each of these steps.
+fn beside<'a>(alloc: Global) -> Result<Arg<'a>, AllocError> {
+    let help = "With --steps, writes each step beside the number of the line that made it";
+    flag(alloc, "beside", help).requires_arg("steps")
+}
+
+fn simulate<'a>(alloc: Global) -> Result<Command<'a>, AllocError> {
+    let checked = "Writes the machine's steps of the run after its replies, and that they are one";
     let command = Command::new(alloc, "simulate")
         .about(help::SIMULATE_ABOUT)
         .after_help(help::SIMULATE_HELP)
-        .arg(checked)?
-        .arg(steps)?
-        .arg(beside)?
-        .arg(cells_option(alloc))?
-        .arg(file(alloc))?;
-    Ok(command)
+        .arg(flag(alloc, "check", checked))?;
+    let command = with(command, steps(alloc))?;
+    let command = with(command, beside(alloc))?;
+    command.arg(cells_option(alloc))?.arg(file(alloc))
 }
 
-fn explain<'a>(alloc: Global) -> Result<Command<'a>, Error> {
-    let svg = Arg::new(alloc, "svg")
-        .long("svg")
-        .action(ArgAction::SetTrue)
-        .help("Writes a drawing in place of text, an SVG: time goes down, requests are arrows");
-    let machine = Arg::new(alloc, "machine")
-        .long("machine")
-        .action(ArgAction::SetTrue)
-        .help("Shows with each line the machine's steps that it made, as where a commit happened");
-    let command = Command::new(alloc, "explain")
+fn explain<'a>(alloc: Global) -> Result<Command<'a>, AllocError> {
+    let svg = "Writes a drawing in place of text, an SVG: time goes down, requests are arrows";
+    let machine =
+        "Shows with each line the machine's steps that it made, as where a commit happened";
+    Command::new(alloc, "explain")
         .about(help::EXPLAIN_ABOUT)
         .after_help(help::EXPLAIN_HELP)
-        .arg(svg)?
-        .arg(machine)?
+        .arg(flag(alloc, "svg", svg))?
+        .arg(flag(alloc, "machine", machine))?
         .arg(cells_option(alloc))?
-        .arg(file(alloc))?;
-    Ok(command)
+        .arg(file(alloc))
 }
 
-fn run<'a>(alloc: Global) -> Result<Command<'a>, Error> {
-    let workers = Arg::new(alloc, "workers")
+// How many threads make the steps of a run.
+fn workers<'a>(alloc: Global) -> Arg<'a> {
+    Arg::new(alloc, "workers")
         .long("workers")
         .value_name("N")
         .help("How many threads make steps, 1 to 64")
         .required(true)
-        .value_parser(ValueParser::Unsigned(1, MAX_WORKERS as u64));
-    let life_time = Arg::new(alloc, "gc-life-time")
+        .value_parser(ValueParser::Unsigned(1, MAX_WORKERS as u64))
+}
+
+// How long what is out of date is kept in a run.
+fn life_time<'a>(alloc: Global) -> Arg<'a> {
+    Arg::new(alloc, "gc-life-time")
         .long("gc-life-time")
         .value_name("TICKS")
         .help(
             "Collects meanwhile what is out of date for so many ticks; without it nothing is collected",
         )
-        .value_parser(ValueParser::Unsigned(1, MAX_LIFE_TIME));
-    let stats = Arg::new(alloc, "stats")
-        .long("stats")
-        .action(ArgAction::SetTrue)
-        .help("Tells on standard error what the run came to, and how long it took");
-    let command = Command::new(alloc, "run")
-        .about(help::RUN_ABOUT)
-        .after_help(help::RUN_HELP)
-        .arg(workers)?
-        .arg(life_time)?
-        .arg(stats)?
-        .arg(cells_option(alloc))?
-        .arg(file(alloc))?;
-    Ok(command)
+        .value_parser(ValueParser::Unsigned(1, MAX_LIFE_TIME))
 }
 
-fn import<'a>(alloc: Global) -> Result<Command<'a>, Error> {
-    let sessions = Arg::new(alloc, "sessions")
-        .long("sessions")
-        .action(ArgAction::SetTrue)
-        .help("Asks as well that each process sees what it did before");
-    let strict = Arg::new(alloc, "strict")
-        .long("strict")
-        .action(ArgAction::SetTrue)
-        .help("Asks as well that what began after another had ended comes after it");
-    let trace = Arg::new(alloc, "trace")
-        .long("trace")
-        .action(ArgAction::SetTrue)
-        .help("Writes a yes as a trace that txkv check judges, in place of its line");
-    let dot = Arg::new(alloc, "dot")
-        .long("dot")
-        .action(ArgAction::SetTrue)
-        .help("Writes the cycle of a no for Graphviz, in place of its line");
-    let svg = Arg::new(alloc, "svg")
-        .long("svg")
-        .action(ArgAction::SetTrue)
-        .help("Draws the cycle of a no, an SVG, in place of its line")
+fn run<'a>(alloc: Global) -> Result<Command<'a>, AllocError> {
+    let stats = "Tells on standard error what the run came to, and how long it took";
+    Command::new(alloc, "run")
+        .about(help::RUN_ABOUT)
+        .after_help(help::RUN_HELP)
+        .arg(workers(alloc))?
+        .arg(life_time(alloc))?
+        .arg(flag(alloc, "stats", stats))?
+        .arg(cells_option(alloc))?
+        .arg(file(alloc))
+}
+
+// A drawing of a cycle.
+fn cycle_drawing<'a>(alloc: Global) -> Result<Arg<'a>, AllocError> {
+    let help = "Draws the cycle of a no, an SVG, in place of its line";
+    flag(alloc, "svg", help)
         .conflicts_with("dot")?
-        .conflicts_with("all")?;
-    let all = Arg::new(alloc, "all")
-        .long("all")
-        .action(ArgAction::SetTrue)
-        .help("Goes on after a no, as if nobody knew what its transactions had read");
+        .conflicts_with("all")
+}
+
+fn import<'a>(alloc: Global) -> Result<Command<'a>, AllocError> {
+    let sessions = "Asks as well that each process sees what it did before";
+    let strict = "Asks as well that what began after another had ended comes after it";
+    let trace = "Writes a yes as a trace that txkv check judges, in place of its line";
+    let dot = "Writes the cycle of a no for Graphviz, in place of its line";
+    let all = "Goes on after a no, as if nobody knew what its transactions had read";
     let command = Command::new(alloc, "import")
         .about(help::IMPORT_ABOUT)
         .after_help(help::IMPORT_HELP)
-        .arg(sessions)?
-        .arg(strict)?
-        .arg(trace)?
-        .arg(dot)?
-        .arg(svg)?
-        .arg(all)?
-        .arg(file(alloc))?;
-    Ok(command)
+        .arg(flag(alloc, "sessions", sessions))?
+        .arg(flag(alloc, "strict", strict))?
+        .arg(flag(alloc, "trace", trace))?
+        .arg(flag(alloc, "dot", dot))?;
+    let command = with(command, cycle_drawing(alloc))?;
+    command.arg(flag(alloc, "all", all))?.arg(file(alloc))
 }
 
 static SHELLS: [&str; 3] = ["bash", "zsh", "fish"];
 
-fn completions<'a>(alloc: Global) -> Result<Command<'a>, Error> {
+fn completions<'a>(alloc: Global) -> Result<Command<'a>, AllocError> {
     let shell = Arg::new(alloc, "shell")
         .value_name("SHELL")
         .help("The shell: bash, zsh or fish")
         .required(true)
         .value_parser(ValueParser::Names(&SHELLS));
-    let command = Command::new(alloc, "completions")
+    Command::new(alloc, "completions")
         .about(help::COMPLETIONS_ABOUT)
         .after_help(help::COMPLETIONS_HELP)
-        .arg(shell)?;
-    Ok(command)
+        .arg(shell)
 }
 
 fn refusals<'a>(alloc: Global) -> Command<'a> {
@@ -288,21 +284,20 @@ fn refusals<'a>(alloc: Global) -> Command<'a> {
 }
 
 // The program with its commands, as a command line may say them.
-fn program<'a>(alloc: Global) -> Result<Command<'a>, Error> {
+fn program<'a>(alloc: Global) -> Result<Command<'a>, AllocError> {
     let command = Command::new(alloc, "txkv")
         .about(help::ABOUT)
         .version("0.1.0")
         .after_help(help::EXAMPLES)
-        .subcommand_required(true)
-        .subcommand(simulate(alloc)?)?
-        .subcommand(explain(alloc)?)?
-        .subcommand(generate(alloc)?)?
-        .subcommand(run(alloc)?)?
-        .subcommand(check(alloc)?)?
-        .subcommand(import(alloc)?)?
-        .subcommand(refusals(alloc))?
-        .subcommand(completions(alloc)?)?;
-    Ok(command)
+        .subcommand_required(true);
+    let command = with_command(command, simulate(alloc))?;
+    let command = with_command(command, explain(alloc))?;
+    let command = with_command(command, generate(alloc))?;
+    let command = with_command(command, run(alloc))?;
+    let command = with_command(command, check(alloc))?;
+    let command = with_command(command, import(alloc))?;
+    let command = command.subcommand(refusals(alloc))?;
+    with_command(command, completions(alloc))
 }
 
 // The shell that is named.

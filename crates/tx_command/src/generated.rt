@@ -1,8 +1,8 @@
 //! What a script by chance is to be like, as a command line says it.
 use crate::help;
 use clap::builder::ValueParser;
-use clap::{Arg, ArgMatches, Command, Error};
-use std::alloc::Global;
+use clap::{Arg, ArgMatches, Command};
+use std::alloc::{AllocError, Global};
 use tx_types::Mode;
 use tx_types::limits::{MAX_LINES, MAX_LIVE_SESSIONS};
 
@@ -35,44 +35,89 @@ fn number<'a>(alloc: Global, name: &'a str, least: u64, most: u64) -> Arg<'a> {
         .value_parser(ValueParser::Unsigned(least, most))
 }
 
-/// The command that writes one.
-pub(crate) fn generate<'a>(alloc: Global) -> Result<Command<'a>, Error> {
-    let seed = number(alloc, "seed", 0, u64::MAX)
-        .required(true)
-        .help("Which script: the same options give the same one");
-    let steps = number(alloc, "steps", 1, MAX_LINES)
-        .default_value("60")
-        .help("How many lines it has");
-    let sessions = number(alloc, "sessions", 1, MAX_LIVE_SESSIONS as u64)
-        .default_value("4")
-        .help("How many sessions live at once, at most");
-    let regions = number(alloc, "regions", 1, MAX_LETTERS)
-        .default_value("2")
-        .help("How many regions there are");
-    let keys = number(alloc, "keys", 1, MAX_LETTERS)
-        .default_value("4")
-        .help("How many keys there are");
-    let faults = number(alloc, "faults", 0, 100)
-        .value_name("P")
-        .default_value("15")
-        .help("How many of a hundred requests are lost, unanswered, repeated or held");
-    let mode = Arg::new(alloc, "mode")
+// How its transactions commit.
+fn mode<'a>(alloc: Global) -> Arg<'a> {
+    Arg::new(alloc, "mode")
         .long("mode")
         .value_name("MODE")
         .help("How its transactions commit")
         .value_parser(ValueParser::Names(&MODES))
-        .default_value("both");
+        .default_value("both")
+}
+
+// How much there is of something in a script, 1 or more: the name of its option, the most, how much
+// where nothing is said, and what help says of it.
+#[derive(Clone, Copy)]
+struct Amount {
+    name: &'static str,
+    most: u64,
+    usual: &'static str,
+    help: &'static str,
+}
+
+static AMOUNTS: [Amount; 4] = [
+    Amount {
+        name: "steps",
+        most: MAX_LINES,
+        usual: "60",
+        help: "How many lines it has",
+    },
+    Amount {
+        name: "sessions",
+        most: MAX_LIVE_SESSIONS as u64,
+        usual: "4",
+        help: "How many sessions live at once, at most",
+    },
+    Amount {
+        name: "regions",
+        most: MAX_LETTERS,
+        usual: "2",
+        help: "How many regions there are",
+    },
+    Amount {
+        name: "keys",
+        most: MAX_LETTERS,
+        usual: "4",
+        help: "How many keys there are",
+    },
+];
+
+// The option that says an amount.
+fn amount_option<'a>(alloc: Global, amount: Amount) -> Arg<'a> {
+    number(alloc, amount.name, 1, amount.most)
+        .default_value(amount.usual)
+        .help(amount.help)
+}
+
+// A command with the options that say amounts.
+fn with_amounts<'a>(alloc: Global, command: Command<'a>) -> Result<Command<'a>, AllocError> {
+    let mut command = command;
+    for amount in AMOUNTS {
+        command = command.arg(amount_option(alloc, amount))?;
+    }
+    Ok(command)
+}
+
+// How many of its requests do not simply arrive.
+fn faults<'a>(alloc: Global) -> Arg<'a> {
+    number(alloc, "faults", 0, 100)
+        .value_name("P")
+        .default_value("15")
+        .help("How many of a hundred requests are lost, unanswered, repeated or held")
+}
+
+/// The command that writes one.
+pub(crate) fn generate<'a>(alloc: Global) -> Result<Command<'a>, AllocError> {
+    let seed = number(alloc, "seed", 0, u64::MAX)
+        .required(true)
+        .help("Which script: the same options give the same one");
     let command = Command::new(alloc, "generate")
         .about(help::GENERATE_ABOUT)
         .after_help(help::GENERATE_HELP)
-        .arg(seed)?
-        .arg(steps)?
-        .arg(sessions)?
-        .arg(regions)?
-        .arg(keys)?
-        .arg(faults)?
-        .arg(mode)?;
-    Ok(command)
+        .arg(seed)?;
+    with_amounts(alloc, command)?
+        .arg(faults(alloc))?
+        .arg(mode(alloc))
 }
 
 /// What the options of a command line say of it.

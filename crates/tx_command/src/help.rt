@@ -44,7 +44,8 @@ pub static SIMULATE_HELP: &str =
 A delivery is nothing, or "lose", "lose-reply", "repeat", or "hold",name
 
 Each reply is the number of the line and the step's words; docs/SCRIPT.md has all replies, refusals and causes.
-With --check, a script that ended without a fault is followed by the machine's steps of its run, in the form of txkv check.
+With --check, a script that ended without a fault is followed by the machine's steps of its run, in the form of txkv
+check.
 With --steps, those steps are all that is written, but for the line of a fault; with --beside as [n,step], n the line
 that made it, which txkv check reads as well.
 Typed at a terminal, a fault is told and the next line read in its place; help and :keys answer questions.
@@ -60,8 +61,9 @@ pub(crate) static EXPLAIN_ABOUT: &str =
     "Run a script as simulate does, and show its run: a column a session, a line a step";
 
 pub(crate) static EXPLAIN_HELP: &str =
-    r#"Beside each step and its reply stands what changed of each key: its lock, and write records that came (+) and went (-).
-A refusal has its reason on a line of its own. With --machine a line that made steps of the machine has these below it.
+    r#"Beside each step and its reply stands what changed of each key: its lock, and write records that came (+) and
+went (-). A refusal has its reason on a line of its own. With --machine a line that made steps of the machine has these
+below it.
 docs/EXPLAIN.md has all forms.
 
 Examples:
@@ -73,9 +75,9 @@ pub(crate) static GENERATE_ABOUT: &str =
     "Write a script by chance, in which requests are lost, repeated, held and late";
 
 pub(crate) static GENERATE_HELP: &str =
-    r#"The script ends well in simulate: each line was tried before it was written, and the next one thought of by its reply.
-Sessions read, scan, put, insert, delete, lock and commit keys a, b, .. in both ways, resolve what is in their way, stop,
-and are told of what arrives late; old versions are collected. The same options give the same script.
+    r#"The script ends well in simulate: each line was tried before it was written, and the next one thought of by its
+reply. Sessions read, scan, put, insert, delete, lock and commit keys a, b, .. in both ways, resolve what is in their
+way, stop, and are told of what arrives late; old versions are collected. The same options give the same script.
 
 Examples:
   txkv generate --seed 7 | txkv simulate --check   A run by chance, and that it was one of the machine
@@ -85,17 +87,17 @@ Examples:
 pub(crate) static RUN_ABOUT: &str = "Run the sessions of a script side by side, on several threads";
 
 pub(crate) static RUN_HELP: &str =
-    r#"The script is read whole. Its seeds run in the order of their lines, and then the lines of each session in theirs,
-the sessions side by side. s names a session; mode is "two-phase" or "async":
+    r#"The script is read whole. Its seeds run in the order of their lines, and then the lines of each session in
+theirs, the sessions side by side. s names a session; mode is "two-phase" or "async":
   ["regions",[key,..]]                 Line 1 alone: the keys between the regions
   ["seed",key,value]                   Puts a value on a key, in a transaction of its own
   ["transfer",s,from,to,amount,mode]   Moves an amount between the balances of two keys, in one transaction
-and the steps of sessions as txkv simulate --help has them, with no delivery: begin, put, delete, lock, insert, get, scan,
-declare, prewrite, draw, commit, abort, heartbeat, finish, stop, resolve
+and the steps of sessions as txkv simulate --help has them, with no delivery: begin, put, delete, lock, insert, get,
+scan, declare, prewrite, draw, commit, abort, heartbeat, finish, stop, resolve
 
 A balance is a text of 1 to 15 decimal digits; any other text, or none, is a balance of 0.
-The replies come in the order of the lines. Then ["outcomes",committed,aborted,unknown,read-only] counts the outcomes that
-were told, and ["total",n] is the sum of all balances.
+The replies come in the order of the lines. Then ["outcomes",committed,aborted,unknown,read-only] counts the outcomes
+that were told, and ["total",n] is the sum of all balances.
 
 Examples:
   txkv run --workers 4 transfers.run                       Two accounts, and transfers between them and a third
@@ -131,16 +133,19 @@ pub(crate) static IMPORT_ABOUT: &str = "Judge a history of any store: is it snap
 pub(crate) static IMPORT_HELP: &str =
     r#"A history has one transaction a line, each a JSON object, of one process in the order in which it ran them:
   {"id":1,"type":"ok","process":3,"start":10,"end":12,"ops":[["append","x",1],["r","x",[1]]]}
-type is "ok" where it committed, "fail" where it did not, "info" where nobody knows. id, process, start and end may be left
-out; start and end are numbers of one clock. Keys and values are strings or whole numbers; each value is given to a key once:
+type is "ok" where it committed, "fail" where it did not, "info" where nobody knows. id, process, start and end may be
+left out; start and end are numbers of one clock. Keys and values are strings or whole numbers; each value is given to a
+key once:
   ["append",key,value]      It put the value behind those of the key's list
   ["r",key,[value,..]]      It read the list
   ["w",key,value]           It wrote the value: lists and such registers do not mix
   ["r",key,value]           It read the value, or null for none
 
-The answer is one line, yes with status 0, no with 3, open with 5: transactions put values into a key of which nobody read
-the order. A last read of all keys leaves few open. docs/HISTORIES.md has what each answer means, and the names of a no.
-With --all, what those read that a no tells of is taken as not known, and what is left is judged again: a line for each no.
+The answer is one line, yes with status 0, no with 3, open with 5: transactions put values into a key of which nobody
+read the order. A last read of all keys leaves few open. docs/HISTORIES.md has what each answer means, and the names of
+a no.
+With --all, what those read that a no tells of is taken as not known, and what is left is judged again: a line for each
+no.
 
 Examples:
   txkv import history.jsonl             ["import","yes",{..}], or ["import","no",name,[[id,edge,key,id],..]]
@@ -154,8 +159,9 @@ pub(crate) static REFUSALS_ABOUT: &str = "Tell what each refusal means, E1 to E1
 
 /// The refusals, a line each.
 pub static REFUSALS: &str =
-    r#"A refusal is the reply of its line, and the script goes on; with E16 it ends. Behind the number stands what is in brackets:
-  E1   KeyIsLocked        Another transaction's lock stands in the way [the lock's key, start, primary, minimum and mode]
+    r#"A refusal is the reply of its line, and the script goes on; with E16 it ends. Behind the number stands what is in
+brackets:
+  E1   KeyIsLocked        Another transaction's lock stands in the way [the lock's key, start, primary, minimum, mode]
   E2   WriteConflict      A newer committed record of another transaction stands on the key [its start and commit]
   E3   AlreadyRolledBack  The transaction's rollback stands on the key
   E4   AlreadyCommitted   The transaction's commit stands on the key [its commit]

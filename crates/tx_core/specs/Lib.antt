@@ -10,4 +10,4 @@ pub mod Laws
 pub mod ReadMarks
 pub mod Happens
 pub mod Later
-pub mod Noting
+pub mod LastChanges

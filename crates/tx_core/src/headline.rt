@@ -27,7 +27,8 @@ pub fn every_run()
 /// These steps can be read off the events one by one: those that `shadow` gives are such ones. So
 /// what holds of them holds of the run.
 pub fn shadow_is_the_run()
-    ensures steps { (bounds : List Key) (events : History) → IsWorldRun bounds events → Explains (shadow events) events }
+    ensures steps { (bounds : List Key) (events : History) → IsWorldRun bounds events
+        → Explains (shadow events) events }
     ensures run { (bounds : List Key) (events : History) → IsWorldRun bounds events → IsRun (shadow events) }
     ensures answers { (bounds : List Key) (events : History) → IsWorldRun bounds events → AllTrue events }
     ensures decisions { (bounds : List Key) (events : History) → IsWorldRun bounds events

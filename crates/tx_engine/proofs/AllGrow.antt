@@ -1,5 +1,5 @@
 -- Histories only grow as steps are played.
-use Rattle.std.proofs.Common.{ℕ, ◌+◌, ◌&&◌, Bool, true, false, not, cond, inr, List, [], Option, Some, None, is_some, nat_eq, nat_le}
+use Rattle.std.proofs.Common.{ℕ, ◌+◌, Bool, true, false, not, cond, inl, inr, List, [], Option, Some, None, Ok, Err, is_some, nat_eq, nat_le, sym, subst}
 use Rattle.tx_types.specs.declared.fault.Cause.{Cause}
 use Rattle.tx_types.specs.declared.fault.Cause.TheVariants as cause
 use Rattle.tx_types.specs.declared.key.Key.{Key}
@@ -14,12 +14,12 @@ use Rattle.tx_core.specs.Histories.{History, last, Begins}
 use Rattle.tx_core.proofs.seats.Beginnings.{begins_all, begins_more}
 use Rattle.tx_transaction.specs.declared.state.Response.{Response}
 use Rattle.tx_transaction.specs.declared.state.Response.TheVariants as response
-use Rattle.tx_transaction.specs.Sessions.{SessionState, is_declared, has_primary, exceeds, declaration, can_draw, can_commit, can_abort, finish_of, notes_one}
+use Rattle.tx_transaction.specs.Sessions.{SessionState, is_declared, exceeds, declaration, can_draw, finish_of, notes_one}
 use Rattle.tx_transaction.specs.declared.state.Terms.{Terms}
-use Rattle.tx_client.specs.Walks.{Walk, asks, grows, ends, get_walk, scan_walk, heartbeat_walk}
+use Rattle.tx_client.specs.Walks.{Walk, asks, grows, ends}
 use Rattle.tx_client.specs.Statuses.{lies_above}
-use Rattle.tx_resolve.specs.Reading.{read_walk}
-use Rattle.tx_resolve.specs.Collecting.{gc_walk}
+use Rattle.tx_resolve.specs.BlockedReads.{read_walk}
+use Rattle.tx_resolve.specs.Collection.{gc_walk}
 use Rattle.tx_steps.specs.declared.delivery.Delivery.TheVariants as deliveries
 use Rattle.tx_reply.specs.declared.reply.ScriptReply.{ScriptReply}
 use Rattle.tx_reply.specs.declared.reply.ScriptReply.TheVariants as reply
@@ -28,15 +28,16 @@ use Rattle.tx_steps.specs.declared.delivery.Delivery.{Delivery}
 use Rattle.tx_steps.specs.Steps.{Text}
 use Rattle.tx_network.specs.Networks.{taken, holding, takes_memory, may_go}
 use Rattle.tx_steps.specs.declared.call.Call.{Call}
-use Rattle.tx_steps.specs.declared.call.Call.TheVariants as call
 use Rattle.tx_steps.specs.declared.op.Op.{Op}
 use Rattle.tx_steps.specs.declared.op.Op.TheVariants as op
 use Rattle.tx_steps.specs.declared.step.Step.{Step}
 use Rattle.tx_steps.specs.declared.step.Step.TheVariants as step
 use Rattle.tx_types.specs.Lengths.{is_key}
-use Rattle.tx_edits.specs.Edits.{Edit, is_refused, later_of, puts, inserts, deletes, locks}
-use Rattle.tx_edits.specs.Edits as edit
-use Rattle.tx_engine.specs.Semantics.{EngineState, Transition, goes, inquires, shows, stops, calls, at_network, began, declared_in, placed_in, placed, seat_at, read_by, said_by, answers, asked, sent, runs, runs_to, first_free, live_at, is_too_many, edited, edits, sends, delivered_by, delivers, finishes_by, begins_at, in_session, turn, learns, resolves_by, collected_as, sends_by}
+use Rattle.tx_ops.specs.Edits.{Edit, is_refused, later_of, puts, inserts, deletes, locks}
+use Rattle.tx_ops.specs.Edits as edit
+use Rattle.tx_ops.specs.Calls.{Said, call_walk}
+use Rattle.tx_ops.proofs.Ending.{AllEnds, Any, all_end, Tells, call_tells}
+use Rattle.tx_engine.specs.Semantics.{EngineState, Transition, goes, inquires, shows, stops, calls, at_network, began, declared_in, placed_in, placed, seat_at, answers, asked, sent, runs, came, first_free, live_at, is_too_many, edited, edits, sends, delivered_by, delivers, finishes_by, begins_at, in_session, turn, learns, resolves_by, collected_as, sends_by}
 use Rattle.tx_engine.specs.Plays.{Leads}
 
 -- Whatever a turn leads to, and wherever it asks a region, h has happened there; it stops at most
@@ -101,27 +102,29 @@ module _ (bounds : List Key) (from : History) where
       either from engine.network.history (is_refused refused) _ _ (grow response.OutOfMemory engine (later_of refused))
       (grow response.Lost (at_network engine (holding engine.network name body)) (later_of refused))
 
+  -- by what each of its ends is
+  ends_grow : {R : Type 0} (P : R → Type 0) (delivery : Delivery Text) (refused : List Bool) (engine : EngineState)
+      (w : Walk R) (on : R → EngineState → List Bool → Transition) → AllEnds Any P w
+      → ((r : R) → P r → Later from (on r))
+      → AllGrow from engine.network.history (runs bounds delivery refused engine w on)
+  ends_grow P delivery refused engine (ends r) on all grow = grow r all engine refused
+  ends_grow P delivery refused engine (grows more short) on all grow =
+      either from engine.network.history (is_refused refused) _ _
+      (ends_grow P delivery (later_of refused) engine short on all.1 grow)
+      (ends_grow P delivery (later_of refused) engine more on all.0 grow)
+  ends_grow P delivery refused engine (asks body more) on all grow =
+      sent_grows delivery refused engine body (λ c next left. runs bounds delivery left next (more c) on)
+      (λ c next left. ends_grow P delivery left next (more c) on (all c tt) grow)
+
   runs_grow : {R : Type 0} (delivery : Delivery Text) (refused : List Bool) (engine : EngineState) (w : Walk R) (on : R
       → EngineState → List Bool → Transition) → ((r : R) → Later from (on r))
       → AllGrow from engine.network.history (runs bounds delivery refused engine w on)
-  runs_grow delivery refused engine (ends r) on grow = grow r engine refused
-  runs_grow delivery refused engine (grows more short) on grow =
-      either from engine.network.history (is_refused refused) _ _
-      (runs_grow delivery (later_of refused) engine short on grow)
-      (runs_grow delivery (later_of refused) engine more on grow)
-  runs_grow delivery refused engine (asks body more) on grow =
-      sent_grows delivery refused engine body (λ c next left. runs bounds delivery left next (more c) on)
-      (λ c next left. runs_grow delivery left next (more c) on grow)
+  runs_grow delivery refused engine w on grow =
+      ends_grow (λ r. Unit {0}) delivery refused engine w on (all_end Any w) (λ r is. grow r)
 
 -- ---- steps
 
 module _ (bounds : List Key) where
-  sends_grow : {R : Type 0} (say : R → ScriptReply) (k : ℕ) (delivery : Delivery Text) (refused : List Bool)
-      (engine : EngineState) (w : Walk (SessionState × R))
-      → AllGrow engine.network.history engine.network.history (runs_to bounds say k delivery refused engine w)
-  sends_grow say k delivery refused engine w = runs_grow bounds engine.network.history delivery refused engine w _
-      (λ r next left. begins_all next.network.history)
-
   module _ (engine : EngineState) where
     abbrev h : History
     h = engine.network.history
@@ -159,27 +162,19 @@ module _ (bounds : List Key) where
     edit_grows refused k s op.Stop = begins_all h
     edit_grows refused k s (op.Resolve now) = begins_all h
 
+    -- what a call came to, where its line is told something
+    came_grows : (k : ℕ) (t : SessionState) (said : Said) → Tells (t, said) → Later h (came k t said)
+    came_grows k t (Ok said) told next left = begins_all next.network.history
+    came_grows k t (Err c) told next left = absurd told
+
     send_by_grows : (refused : List Bool) (k : ℕ) (s : SessionState) (what : Call Text) (delivery : Delivery Text)
         → AllGrow h h (sends_by refused engine k s bounds what delivery)
-    send_by_grows refused k s (call.Get key) delivery =
-        either h h (not (is_key key)) _ _ (begins_all h)
-        (calls_grow refused (λ left. runs_to bounds read_by k delivery left engine (get_walk s key))
-        (λ left. sends_grow read_by k delivery left engine (get_walk s key)))
-    send_by_grows refused k s (call.Scan a b limit) delivery =
-        either h h (not (is_key a && is_key b)) (goes engine reply.KeyLength refused)
-        (calls refused engine (λ left. runs_to bounds read_by k delivery left engine
-        (scan_walk s bounds a b limit))) (begins_all h)
-        (calls_grow refused (λ left. runs_to bounds read_by k delivery left engine (scan_walk s bounds a b limit))
-        (λ left. sends_grow read_by k delivery left engine (scan_walk s bounds a b limit)))
-    send_by_grows refused k s call.Prewrite delivery =
-        either h h (is_declared s) _ _ (sends_grow _ k delivery refused engine _) (begins_all h)
-    send_by_grows refused k s call.Commit delivery =
-        either h h (can_commit s) _ _ (sends_grow _ k delivery refused engine _) (begins_all h)
-    send_by_grows refused k s call.Abort delivery =
-        either h h (can_abort s) _ _ (sends_grow _ k delivery refused engine _) (begins_all h)
-    send_by_grows refused k s (call.Heartbeat ttl) delivery =
-        either h h (has_primary s) _ _ (sends_grow said_by k delivery refused engine (heartbeat_walk s ttl))
-        (begins_all h)
+    send_by_grows refused k s what delivery = elim (call_tells bounds s what) [
+      | inl y ↦ subst (λ w. AllGrow h h (runs bounds delivery refused engine w (λ x next left.
+          came k x.0 x.1 next left))) (sym y.1) (begins_all h)
+      | inr all ↦ ends_grow bounds h Tells delivery refused engine (call_walk bounds s what)
+          (λ x next left. came k x.0 x.1 next left) all (λ x. came_grows k x.0 x.1)
+    ]
 
     send_grows : (refused : List Bool) (k : ℕ) (s : SessionState) (what : Call Text) (delivery : Delivery Text)
         → AllGrow h h (sends refused engine k s bounds what delivery)

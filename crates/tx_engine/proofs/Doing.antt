@@ -1,28 +1,24 @@
 -- What a live session does is its turn.
 use Rattle.std.proofs.Common.{◌≡◌, ◌+◌, ℕ, cond, Bool, true, false, not, List, [], ◌∷◌, ◌++◌, slice_set, Some, Result, Ok, Err, refl, sym, ap, subst, ◌∙◌}
-use Rattle.std.specs.Prelude.{OnOk, IfErr}
 use Rattle.tx_types.specs.declared.fault.Cause.{Cause}
 use Rattle.tx_types.specs.declared.fault.Cause.TheVariants as cause
-use Rattle.tx_types.specs.declared.fault.Fault.{Fault}
-use Rattle.tx_types.specs.declared.fault.Fault.TheVariants as fault
 use Rattle.tx_types.specs.declared.key.Key.{Key}
 use Rattle.tx_core.specs.declared.event.Event.TheVariants.{Drawn}
 use Rattle.tx_core.specs.Histories.{last}
 use Rattle.tx_transaction.specs.declared.state.Terms.{Terms}
 use Rattle.tx_client.specs.Calls.{Seated}
 use Rattle.tx_transaction.specs.Sessions.{SessionState, is_declared, exceeds, declaration, can_draw}
-use Rattle.tx_client.specs.Walks.{Walk, Sends}
 use Rattle.tx_reply.specs.declared.reply.ScriptReply.{ScriptReply}
 use Rattle.tx_reply.specs.declared.reply.ScriptReply.TheVariants as reply
 use Rattle.tx_steps.specs.declared.delivery.Delivery.{Delivery}
 use Rattle.tx_steps.specs.Steps.{Text}
-use Rattle.tx_network.specs.Networks.{NetworkParts, network_state, with_events, IsSet, Passes, may_go}
-use Rattle.tx_engine.specs.Semantics.{session, EngineState, Transition, goes, stops, seat_at, declared_in, placed_in, placed, runs_to, entered_by, declares, draws, drew, is_too_many, sends_by, sends}
+use Rattle.tx_network.specs.Networks.{NetworkParts, network_state, with_events, may_go}
+use Rattle.tx_engine.specs.Semantics.{session, EngineState, Transition, goes, stops, seat_at, declared_in, placed_in, placed, declares, draws, drew, is_too_many, sends_by, sends}
 use Rattle.tx_steps.specs.declared.call.Call.{Call}
 use Rattle.tx_engine.specs.Plays.{Leads}
 use Rattle.tx_engine.specs.Slots.{engine_with, Acts, Did}
 use Rattle.tx_engine.proofs.Acting.{acts_so}
-use Rattle.tx_engine.proofs.Turning.{goes_at, session_rests, did_not, did_change, did_send}
+use Rattle.tx_engine.proofs.Turning.{goes_at, session_rests, did_not, did_change}
 
 abbrev pub SessionTurn : Type 0
 SessionTurn = List Bool → EngineState → ℕ → SessionState → Transition
@@ -55,23 +51,6 @@ module _ (bounds : List Key) (turn : SessionTurn) where
       (session_rests bounds turn old.seat.seat old.state old.state (network_state network)
       (network_state network) said said bits is refl refl refl)
 
-  -- ---- requests
-
-  -- where it is allowed, it sends
-  pub sends_if : {R : Type 0} (old new : Seated) (from at to : NetworkParts) (delivery : Delivery Text) (b : Bool)
-      (w : Walk (SessionState × R)) (say : R → ScriptReply) (result : R) (said : ScriptReply) → IsSet delivery from at
-      → ((refused : List Bool) (engine : EngineState) (k : ℕ)
-      → turn refused engine k old.state ≡ cond b (runs_to bounds say k delivery refused engine w)
-      (stops cause.Order)) → b ≡ true
-      → Sends (λ (x : NetworkParts) q y z. Passes bounds x.delivery x q y z) bounds old.seat at w (
-        new.state,
-        result,
-      ) to new.seat → said ≡ say result → Did bounds turn (Ok said) old new from to
-  sends_if old new from at to delivery b w say result said set is can sent also =
-      did_send bounds turn old new from at to [] delivery w say result said set sent (λ later engine k.
-      is later engine k ∙ ap (λ x. cond x (runs_to bounds say k delivery later engine w) (stops cause.Order)) can)
-      also
-
 -- ---- declare and draw
 
 module _ (bounds : List Key) (old new : Seated) (from to : NetworkParts) where
@@ -94,7 +73,7 @@ module _ (bounds : List Key) (old new : Seated) (from to : NetworkParts) where
         → declaring refused engine k old.state ≡ inner many refused engine k
     declares_is many is refused engine k = λ i. cond (free i) (stops cause.Order) (inner (is i) refused engine k)
 
-    declared_ok : exceeds old.state.buffer terms ≡ false → Acts old.seat new.seat from to Exactly
+    pub declared_ok : exceeds old.state.buffer terms ≡ false → Acts old.seat new.seat from to Exactly
         → Did bounds declaring (Ok reply.Fine) old new from to
     declared_ok few act =
         acts_so old.seat new.seat from to _ _ act
@@ -111,25 +90,13 @@ module _ (bounds : List Key) (old new : Seated) (from to : NetworkParts) where
         (λ i. engine_with (sym events i) ticks names (slice_set slots k (session (sym x.0 i))))
         refl)
 
-    declared_err : (e : Fault) → e ≡ fault.TooManyKeys → exceeds old.state.buffer terms ≡ true → new.state ≡ old.state
+    pub declared_err : exceeds old.state.buffer terms ≡ true → new.state ≡ old.state
         → Acts old.seat new.seat from to (network_state to ≡ network_state from)
-        → Did bounds declaring (Ok (entered_by {T = Unit {0}} (Err e))) old new from to
-    declared_err e is many same act =
-        subst (λ f. Did bounds declaring (Ok (entered_by {T = Unit {0}} (Err f))) old new from to) (sym is)
-        (acts_so old.seat new.seat from to _ _ act
+        → Did bounds declaring (Ok reply.TooManyKeys) old new from to
+    declared_err many same act = acts_so old.seat new.seat from to _ _ act
         (λ x. session_rests bounds declaring old.seat.seat old.state new.state (network_state from)
         (network_state to) reply.TooManyKeys reply.TooManyKeys [] (λ later engine k.
-        declares_is true many later engine k) x same refl))
-
-    pub declared : (r : Result (Unit {0}) Fault) → OnOk r ((exceeds old.state.buffer terms ≡ false)
-        × Acts old.seat new.seat from to Exactly)
-        → IfErr r (λ e. (e ≡ fault.TooManyKeys) × (exceeds old.state.buffer terms ≡ true) × (new.state ≡ old.state)
-        × Acts old.seat new.seat from to (network_state to ≡ network_state from))
-        → (said : ScriptReply) → said ≡ entered_by r → Did bounds declaring (Ok said) old new from to
-    declared (Ok x) ok err said also = subst (λ s. Did bounds declaring (Ok s) old new from to) (sym also)
-        (declared_ok ok.0 ok.1)
-    declared (Err e) ok err said also = subst (λ s. Did bounds declaring (Ok s) old new from to) (sym also)
-        (declared_err e err.0 err.1 err.2 err.3)
+        declares_is true many later engine k) x same refl)
 
   -- a draw
   pub drew_did : (t : ℕ) → can_draw old.state ≡ true → new.state ≡ record old.state { drawn = Some t }
@@ -213,7 +180,7 @@ module _ (bounds : List Key) (what : Call Text) (delivery : Delivery Text) (old 
   pub held_amiss : may_go (network_state from) delivery ≡ false → Did bounds sending (Err cause.Name) old old from from
   held_amiss amiss = (
     refl,
-    refl,
+    (from.delivery, refl),
     λ refused ticks names slots k.
         ap (λ b. by_tests b (is_too_many (network_state from) old.state what delivery) refused
         (engine_with (network_state from) ticks names slots) k) amiss,
@@ -225,7 +192,7 @@ module _ (bounds : List Key) (what : Call Text) (delivery : Delivery Text) (old 
         → Did bounds sending (Err cause.Sessions) old old from from
     held_many many = (
       refl,
-      refl,
+      (from.delivery, refl),
       λ refused ticks names slots k. λ i. by_tests (may i) (many i) refused
           (engine_with (network_state from) ticks names slots) k,
     )

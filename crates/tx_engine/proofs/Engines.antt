@@ -34,7 +34,7 @@ use Rattle.tx_steps.specs.Steps.{Text}
 use Rattle.tx_types.specs.Lengths.{is_key}
 use Rattle.tx_engine.specs.Semantics.{EngineState, Transition, free, session, goes, stops, delivered_by, asked, at_network, at_history, seat_at, began, gone, ticked, first_free, lives, at_slot, live_at, in_session, finishes, finishes_by, leaves, turn}
 use Rattle.tx_engine.specs.Plays.{Leads}
-use Rattle.tx_engine.specs.Slots.{ActsIn, Kept, slot_of, Held, texts, name_at, engine_with, engine_state, AllSeated, Acts, Serves, Goes, Did, Turned, TurnedBy}
+use Rattle.tx_engine.specs.Slots.{ActsIn, SlotContent, slot_of, Held, texts, name_at, engine_with, engine_state, AllSeated, Acts, Serves, Stays, Goes, Did, Turned, TurnedBy}
 use Rattle.tx_engine.proofs.Keeping.{set_here, seated_at, at_place_of, acted, served, rested, known_ticks}
 use Rattle.tx_engine.proofs.Turning.{goes_at, asked_leads}
 use Rattle.tx_engine.proofs.Doing.{SessionTurn}
@@ -75,27 +75,33 @@ not_pushed (Ok x) new more old e is = absurd (cc (e))
 not_pushed (Err x) new more old e is = is
 
 -- what is put at a slot that was lent
-pub put : (ps qs rs : List Kept) (k : ℕ) (y : Kept) → qs ≡ slice_set ps k Lent → rs ≡ slice_set qs k y
+pub put : (ps qs rs : List SlotContent) (k : ℕ) (y : SlotContent) → qs ≡ slice_set ps k Lent → rs ≡ slice_set qs k y
     → rs ≡ slice_set ps k y
 put ps qs rs k y lent is = is ∙ (ap (λ xs. slice_set xs k y) lent ∙ set-set ps k Lent y)
 
 -- it was put back
-pub back : (ps qs rs : List Kept) (k : ℕ) (x : Kept) → slice_get ps k ≡ Some x → qs ≡ slice_set ps k Lent
+pub back : (ps qs rs : List SlotContent) (k : ℕ) (x : SlotContent) → slice_get ps k ≡ Some x → qs ≡ slice_set ps k Lent
     → rs ≡ slice_set qs k x → rs ≡ ps
 back ps qs rs k x there lent is = put ps qs rs k x lent is ∙ set_here ps k x there
 
 module _ (bounds : List Key) where
   -- a turn that is not allowed
-  pub turn_stops : (t : List Bool → EngineState → Transition) (old new : Held) (c : Cause)
-      → new.network ≡ old.network → new.system_seat ≡ old.system_seat → new.names ≡ old.names
+  turn_stays : (t : List Bool → EngineState → Transition) (old new : Held) (c : Cause)
+      → Stays old.network new.network → new.system_seat ≡ old.system_seat → new.names ≡ old.names
       → new.slots ≡ old.slots → ((later : List Bool) → t later (engine_state old) ≡ stops c)
       → Goes bounds old new (TurnedBy bounds t (Err c) old new)
-  turn_stops t old new c network system_seat names slots halts =
+  turn_stays t old new c (delivery, network) system_seat names slots halts =
       let same : engine_state new ≡ engine_state old =
       λ i. engine_with (network_state (network i)) (known_ticks (system_seat i)) (λ q. name_at (names i) q)
       (map slot_of (slots i)) in
       rested bounds old new (ap (λ (d : NetworkParts). d.regions) network) (ap (λ (d : NetworkParts). d.newest) network)
       (ap (λ (d : NetworkParts). d.trace) network) system_seat slots _ (same, halts)
+
+  pub turn_stops : (t : List Bool → EngineState → Transition) (old new : Held) (c : Cause)
+      → new.network ≡ old.network → new.system_seat ≡ old.system_seat → new.names ≡ old.names
+      → new.slots ≡ old.slots → ((later : List Bool) → t later (engine_state old) ≡ stops c)
+      → Goes bounds old new (TurnedBy bounds t (Err c) old new)
+  turn_stops t old new c network = turn_stays t old new c (old.network.delivery, network)
 
   -- a step that is not allowed
   pub step_stops : (old new : Held) (what : Step Text) (c : Cause) → new.network ≡ old.network
@@ -147,7 +153,7 @@ module _ (bounds : List Key) where
               (λ i. engine_with (network_state (sym network i)) (known_ticks (sym system_seat i)) (λ q. sym (names q) i)
               (map slot_of (sym slots i))) refl)
 
-          pub step_begun : (new : Held) (seat : Known) (live : Seated) (lent : List Kept)
+          pub step_begun : (new : Held) (seat : Known) (live : Seated) (lent : List SlotContent)
               → slice_get old.slots k ≡ Some (Free seat) → lent ≡ slice_set old.slots k Lent
               → new.slots ≡ slice_set lent k (Live live) → new.system_seat ≡ old.system_seat
               → ((q : List ℕ) → name_at new.names q ≡ update bytes_eq (name_at old.names) name (Some k) q)
@@ -183,7 +189,7 @@ module _ (bounds : List Key) where
     no_name none = ap (at_slot (map slot_of old.slots)) none
 
     module _ (k : ℕ) (named : name_at old.names name ≡ Some k) where
-      at_name : (o : Option Kept) → slice_get old.slots k ≡ o
+      at_name : (o : Option SlotContent) → slice_get old.slots k ≡ o
           → live_at (engine_state old) name ≡ lives k (option_map slot_of o)
       at_name o is = ap (at_slot (map slot_of old.slots)) named ∙ ap (lives k)
           (slice_get-map slot_of old.slots k ∙ ap (option_map slot_of) is)
@@ -191,7 +197,7 @@ module _ (bounds : List Key) where
       pub no_place : length old.slots ≤ k → live_at (engine_state old) name ≡ None
       no_place le = at_name None (slice_get_past old.slots k le)
 
-      pub not_live : (x : Kept) → slice_get old.slots k ≡ Some x → ((s : Seated) → x ≡ Live s → ⊥)
+      pub not_live : (x : SlotContent) → slice_get old.slots k ≡ Some x → ((s : Seated) → x ≡ Live s → ⊥)
           → AllSeated bounds 1 old → live_at (engine_state old) name ≡ None
       not_live (Free s) is never ready = at_name (Some (Free s)) is
       not_live (Live s) is never ready = absurd (never s refl)
@@ -223,7 +229,7 @@ module _ (bounds : List Key) where
       lives_there = slice_get-map slot_of old.slots k ∙ ap (option_map slot_of) there
 
       -- it acts
-      pub step_acted : (new : Held) (t : Seated) (lent : List Kept) → lent ≡ slice_set old.slots k Lent
+      pub step_acted : (new : Held) (t : Seated) (lent : List SlotContent) → lent ≡ slice_set old.slots k Lent
           → new.slots ≡ slice_set lent k (Live t) → new.system_seat ≡ old.system_seat → new.names ≡ old.names
           → (f : SessionTurn) (r : Result ScriptReply Cause)
           → Did bounds f r s t old.network new.network
@@ -248,12 +254,12 @@ module _ (bounds : List Key) where
       step_acted new t lent lends placed system_seat names f (Err c) (same, network, halts) =
           let is : new.slots ≡ old.slots = back old.slots lent new.slots k (Live s) there lends
           (placed ∙ ap (λ x. slice_set lent k (Live x)) same) in
-          turn_stops (in_name name f) old new c network system_seat names is
+          turn_stays (in_name name f) old new c network system_seat names is
           (λ later. ap (λ o. in_session o (λ j y. f later (engine_state old) j y)) (is_live k named s there) ∙ halts
           later old.system_seat.ticks (λ q. name_at old.names q) (map slot_of old.slots) k)
 
       -- it is gone
-      gone_is : (new : Held) (seat : Known) (lent : List Kept) → lent ≡ slice_set old.slots k Lent
+      gone_is : (new : Held) (seat : Known) (lent : List SlotContent) → lent ≡ slice_set old.slots k Lent
           → new.slots ≡ slice_set lent k (Free seat) → new.system_seat ≡ old.system_seat
           → ((q : List ℕ) → name_at new.names q ≡ update bytes_eq (name_at old.names) name None q)
           → (h : History) → network_state new.network ≡ with_events (network_state old.network) h
@@ -265,7 +271,7 @@ module _ (bounds : List Key) where
           λ i. engine_with (sym is i) (known_ticks (sym system_seat i)) (λ q. sym (names q) i) (sym now i)
 
       -- it answers its outcome
-      pub step_finished : (new : Held) (seat : Known) (lent : List Kept) → lent ≡ slice_set old.slots k Lent
+      pub step_finished : (new : Held) (seat : Known) (lent : List SlotContent) → lent ≡ slice_set old.slots k Lent
           → new.slots ≡ slice_set lent k (Free seat) → new.system_seat ≡ old.system_seat
           → ((q : List ℕ) → name_at new.names q ≡ update bytes_eq (name_at old.names) name None q)
           → (o : Outcome) → finish_of s.state ≡ Some o
@@ -283,7 +289,7 @@ module _ (bounds : List Key) where
           (gone_is new seat lent lends placed system_seat names (Answered s.state.start o ∷ old.network.newest) x) refl)
 
       -- it has none yet
-      pub step_unfinished : (new : Held) (t : Seated) (lent : List Kept) → lent ≡ slice_set old.slots k Lent
+      pub step_unfinished : (new : Held) (t : Seated) (lent : List SlotContent) → lent ≡ slice_set old.slots k Lent
           → new.slots ≡ slice_set lent k (Live t) → new.system_seat ≡ old.system_seat → new.names ≡ old.names
           → finish_of s.state ≡ None → t.state ≡ s.state
           → Acts s.seat t.seat old.network new.network (network_state new.network ≡ network_state old.network)
@@ -302,7 +308,7 @@ module _ (bounds : List Key) where
           ))
 
       -- it stops
-      pub step_stopped : (new : Held) (seat : Known) (lent : List Kept) → lent ≡ slice_set old.slots k Lent
+      pub step_stopped : (new : Held) (seat : Known) (lent : List SlotContent) → lent ≡ slice_set old.slots k Lent
           → new.slots ≡ slice_set lent k (Free seat) → new.system_seat ≡ old.system_seat
           → ((q : List ℕ) → name_at new.names q ≡ update bytes_eq (name_at old.names) name None q)
           → Acts s.seat seat old.network new.network (network_state new.network
@@ -420,7 +426,7 @@ first_after : (o : Option ℕ) (n : ℕ) → option_map (λ m. m + n) (option_ma
 first_after None n = refl
 first_after (Some m) n = ap Some (let e : m + 1 + n ≡ m + (n + 1) = omega arith in e)
 
-pub first_more : (p : Kept) (ps : List Kept) (n : ℕ) → ((k : Known) → p ≡ Free k → ⊥)
+pub first_more : (p : SlotContent) (ps : List SlotContent) (n : ℕ) → ((k : Known) → p ≡ Free k → ⊥)
     → option_map (λ m. m + n) (first_free (map slot_of (p ∷ ps)))
     ≡ option_map (λ m. m + (n + 1)) (first_free (map slot_of ps))
 first_more (Free k) ps n never = absurd (never k refl)
@@ -430,7 +436,7 @@ first_more Lent ps n never = first_after (first_free (map slot_of ps)) n
 -- a step at a slot
 module _ (bounds : List Key) (old : Held) (name : List ℕ) (k : ℕ) (named : name_at old.names name
     ≡ Some k) (ready : AllSeated bounds 1 old) where
-  stays : (new : Held) (x y : Kept) → slice_get old.slots k ≡ Some x → ((s : Seated) → x ≡ Live s → ⊥)
+  stays : (new : Held) (x y : SlotContent) → slice_get old.slots k ≡ Some x → ((s : Seated) → x ≡ Live s → ⊥)
       → new.slots ≡ slice_set old.slots k y → new.system_seat ≡ old.system_seat → new.names ≡ old.names
       → (f : SessionTurn) (r : Result ScriptReply Cause)
       → (r ≡ Err cause.Name) × (y ≡ x) × (new.network ≡ old.network)
@@ -442,7 +448,7 @@ module _ (bounds : List Key) (old : Held) (name : List ℕ) (k : ℕ) (named : n
       (turn_stops bounds (in_name bounds name f) old new cause.Name network system_seat names is
       (act_stops bounds old name f (not_live bounds old name k named x there never ready)))
 
-  pub step_in : (new : Held) (x y : Kept) → slice_get old.slots k ≡ Some x → new.slots ≡ slice_set old.slots k y
+  pub step_in : (new : Held) (x y : SlotContent) → slice_get old.slots k ≡ Some x → new.slots ≡ slice_set old.slots k y
       → new.system_seat ≡ old.system_seat → new.names ≡ old.names → (f : SessionTurn) (r : Result ScriptReply Cause)
       → ActsIn bounds f x y r old.network new.network
       → Goes bounds old new (TurnedBy bounds (in_name bounds name f) r old new)

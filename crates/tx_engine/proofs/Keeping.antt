@@ -9,7 +9,7 @@ use Rattle.tx_core.proofs.Basics.{some_same}
 use Rattle.tx_journal.specs.Known.{Known}
 use Rattle.tx_network.specs.Networks.{made_by}
 use Rattle.tx_network.proofs.Tracing.{traced_same}
-use Rattle.tx_engine.specs.Slots.{Kept, seat_in, Held, made_in, IsSeat, AreSeated, AllSeated, Acts, Serves, Finds, Goes}
+use Rattle.tx_engine.specs.Slots.{SlotContent, seat_in, Held, made_in, IsSeat, AreSeated, AllSeated, Acts, Serves, Finds, Goes}
 
 abbrev pub known_ticks : Known → ℕ
 known_ticks k = k.ticks
@@ -26,7 +26,7 @@ fewer : (i n m : ℕ) (o : Option Known) → m ≤ n → IsSeat i n o → IsSeat
 fewer i n m None le h = h
 fewer i n m (Some k) le h = (h.0, omega (arith, le, h.1))
 
-pub seated_fewer : (i n m : ℕ) (slots : List Kept) → m ≤ n → AreSeated i n slots → AreSeated i m slots
+pub seated_fewer : (i n m : ℕ) (slots : List SlotContent) → m ≤ n → AreSeated i n slots → AreSeated i m slots
 seated_fewer i n m [] le h = tt
 seated_fewer i n m (p ∷ slots) le h = (fewer i n m (seat_in p) le h.0, seated_fewer (suc i) n m slots le h.1)
 
@@ -37,14 +37,14 @@ all_fewer bounds n m e le h = record {
 }
 
 -- the seat of a slot
-pub seated_at : (i n k j : ℕ) (slots : List Kept) (x : Kept) → j ≡ i + k → slice_get slots k ≡ Some x
+pub seated_at : (i n k j : ℕ) (slots : List SlotContent) (x : SlotContent) → j ≡ i + k → slice_get slots k ≡ Some x
     → AreSeated i n slots → IsSeat j n (seat_in x)
 seated_at i n k j [] x is there h = absurd (cc (there))
 seated_at i n zero j (p ∷ slots) x is there h = subst (λ m. IsSeat m n (seat_in x)) (sym (is ∙ omega arith))
     (subst (λ y. IsSeat i n (seat_in y)) (some_same p x there) h.0)
 seated_at i n (suc k) j (p ∷ slots) x is there h = seated_at (suc i) n k j slots x (omega (arith, is)) there h.1
 
-seated_set : (i n k : ℕ) (slots : List Kept) (x y : Kept) → slice_get slots k ≡ Some x
+seated_set : (i n k : ℕ) (slots : List SlotContent) (x y : SlotContent) → slice_get slots k ≡ Some x
     → ((j : ℕ) → IsSeat j (suc n) (seat_in x) → IsSeat j n (seat_in y)) → AreSeated i (suc n) slots
     → AreSeated i n (slice_set slots k y)
 seated_set i n k [] x y there change h = tt
@@ -64,14 +64,14 @@ seat_changed a b seat ticks o q was now n j h =
     subst (IsSeat j n) (sym now) (seat ∙ had.0, omega (arith, ticks, had.1))
 
 -- the slot of a seat
-pub at_place_of : (bounds : List Key) (n k : ℕ) (e : Held) (x : Kept) (a : Known) → slice_get e.slots k ≡ Some x
+pub at_place_of : (bounds : List Key) (n k : ℕ) (e : Held) (x : SlotContent) (a : Known) → slice_get e.slots k ≡ Some x
     → seat_in x ≡ Some a → AllSeated bounds n e → (a.seat ≡ length bounds + 2 + k) × (n ≤ a.ticks)
 at_place_of bounds n k e x a there is all = subst (IsSeat (length bounds + 2 + k) n) is (seated_at (length bounds
     + 2) n k (length bounds + 2 + k) e.slots x refl there all.slots)
 
 -- ---- one slot acts
 
-module _ (old new : Held) (k : ℕ) (x y : Kept) (there : slice_get old.slots k ≡ Some x) (placed : new.slots
+module _ (old new : Held) (k : ℕ) (x y : SlotContent) (there : slice_get old.slots k ≡ Some x) (placed : new.slots
     ≡ slice_set old.slots k y) (a b : Known) (was : seat_in x ≡ Some a) (now : seat_in y ≡ Some b) where
   places_count : sum_by (λ p. made_in (seat_in p)) new.slots + made_by a ≡ sum_by (λ p. made_in (seat_in p)) old.slots
       + made_by b
@@ -81,7 +81,7 @@ module _ (old new : Held) (k : ℕ) (x y : Kept) (there : slice_get old.slots k 
       ap (λ p. made_in (seat_in p)) (get_or_from_slice_get old.slots k x x there) ∙ ap made_in was in
       omega (arith, sums, here, ap made_in now, ap (sum_by (λ p. made_in (seat_in p))) placed)
 
-module _ (old new : Held) (k : ℕ) (x y : Kept) (there : slice_get old.slots k ≡ Some x) (placed : new.slots
+module _ (old new : Held) (k : ℕ) (x y : SlotContent) (there : slice_get old.slots k ≡ Some x) (placed : new.slots
     ≡ slice_set old.slots k y) (system_seat : new.system_seat ≡ old.system_seat)
     (a b : Known) (was : seat_in x ≡ Some a) (now : seat_in y ≡ Some b) where
   pub acted : (bounds : List Key) (Exact Then : Type 0) → Acts a b old.network new.network Exact → (Exact → Then)
@@ -102,7 +102,7 @@ module _ (old new : Held) (k : ℕ) (x y : Kept) (there : slice_get old.slots k 
   }
 
 -- the seat for what no session does sends, and the session of a slot learns what was found
-pub found : (bounds : List Key) (old new : Held) (k : ℕ) (x y : Kept) → slice_get old.slots k ≡ Some x
+pub found : (bounds : List Key) (old new : Held) (k : ℕ) (x y : SlotContent) → slice_get old.slots k ≡ Some x
     → new.slots ≡ slice_set old.slots k y → (a b : Known) → seat_in x ≡ Some a → seat_in y ≡ Some b
     → (Exact Then : Type 0) → Finds a b old.system_seat new.system_seat old.network new.network Exact → (Exact → Then)
     → Goes bounds old new Then

@@ -21,8 +21,6 @@ pub mod Dealt
 pub mod Doing
 -- What an edit of a session's buffer comes to is its turn.
 pub mod Editing
--- What a session asks of the regions is its turn.
-pub mod Asking
 -- What a delivery gives is its turn.
 pub mod Delivering
 -- What a step gives that has a key shown is its turn.

@@ -15,8 +15,8 @@ use Rattle.tx_client.specs.declared.resolved.Status.TheVariants as status
 use Rattle.tx_client.specs.declared.resolved.WaitCause.TheVariants as wait
 use Rattle.tx_client.specs.Statuses.{FoundStatus, lies_above}
 use Rattle.tx_resolve.specs.declared.collector.Counts.{Counts}
-use Rattle.tx_resolve.specs.Reading.{read_walk}
-use Rattle.tx_resolve.specs.Collecting.{gc_walk}
+use Rattle.tx_resolve.specs.BlockedReads.{read_walk}
+use Rattle.tx_resolve.specs.Collection.{gc_walk}
 use Rattle.tx_reply.specs.declared.reply.ScriptReply.{ScriptReply}
 use Rattle.tx_reply.specs.declared.reply.ScriptReply.TheVariants as reply
 use Rattle.tx_engine.specs.declared.slots.SessionSlot.TheVariants.{Live, Lent}
@@ -24,10 +24,10 @@ use Rattle.tx_steps.specs.declared.delivery.Delivery.TheVariants as deliveries
 use Rattle.tx_network.specs.Networks.{NetworkParts, made_by, network_state, Runs}
 use Rattle.tx_steps.specs.declared.op.Op.TheVariants as op
 use Rattle.tx_steps.specs.declared.step.Step.TheVariants as step
-use Rattle.tx_edits.specs.Edits.{is_refused, later_of}
+use Rattle.tx_ops.specs.Edits.{is_refused, later_of}
 use Rattle.tx_engine.specs.Semantics.{SlotState, session, EngineState, goes, stops, at_network, seat_at, with_session, learnt, learns, resolves_by, resolves, collected_as, live_at, in_session, turn}
 use Rattle.tx_engine.specs.Plays.{Leads}
-use Rattle.tx_engine.specs.Slots.{Kept, slot_of, Held, name_at, engine_with, engine_state, AllSeated, Serves, Goes, SessionGoes, Learnt, Resolves, Turned}
+use Rattle.tx_engine.specs.Slots.{SlotContent, slot_of, Held, name_at, engine_with, engine_state, AllSeated, Serves, Goes, SessionGoes, Learnt, Resolves, Turned}
 use Rattle.tx_engine.proofs.Keeping.{set_here, at_place_of, found, served}
 use Rattle.tx_engine.proofs.Turning.{runs_lead}
 use Rattle.tx_engine.proofs.Engines.{put, back, is_live, step_stops}
@@ -171,7 +171,7 @@ module _ (bounds : List Key) (now : ℕ) where
 
     module _ (k : ℕ) (s : Seated) (named : name_at old.names name ≡ Some k) (there : slice_get old.slots k
         ≡ Some (Live s)) (ready : AllSeated bounds 1 old) where
-      pub step_resolved : (new : Held) (t : Seated) (lent : List Kept) → lent ≡ slice_set old.slots k Lent
+      pub step_resolved : (new : Held) (t : Seated) (lent : List SlotContent) → lent ≡ slice_set old.slots k Lent
           → new.slots ≡ slice_set lent k (Live t) → new.names ≡ old.names → (r : Result ScriptReply Cause)
           → Resolves bounds now r s t old.system_seat new.system_seat old.network new.network
           → Goes bounds old new (Turned bounds (step.Act name (op.Resolve now)) r old new)

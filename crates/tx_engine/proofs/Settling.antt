@@ -10,7 +10,7 @@ use Rattle.tx_core.specs.Recording.{part, events_of, AllOfSeats}
 use Rattle.tx_core.proofs.seats.Counting.{parts_count}
 use Rattle.tx_journal.specs.Known.{Known}
 use Rattle.tx_network.specs.Networks.{made_by, IsDone, AreNumbered}
-use Rattle.tx_engine.specs.Slots.{Kept, seat_in, Held, made_in, own, IsSeat, AreSeated, AllSeated, Done, Settled}
+use Rattle.tx_engine.specs.Slots.{SlotContent, seat_in, Held, made_in, own, IsSeat, AreSeated, AllSeated, Done, Settled}
 
 -- ---- counting
 
@@ -29,7 +29,8 @@ made_upto : (n : History) (i m : ℕ) (o : Option Known) → IsSeat i m o → Do
 made_upto n i m None seat done = absurd seat
 made_upto n i m (Some k) seat done = subst (λ j. length (part j n) ≤ made_by k) seat.0 done
 
-places_upto : (n : History) (i : ℕ) (slots : List Kept) → AreSeated i 0 slots → AllHold (λ p. Done n (seat_in p)) slots
+places_upto : (n : History) (i : ℕ) (slots : List SlotContent) → AreSeated i 0 slots
+    → AllHold (λ p. Done n (seat_in p)) slots
     → events_of (i + length slots) n ≤ events_of i n + sum_by (λ p. made_in (seat_in p)) slots
 places_upto n i [] seated done = omega (arith, ap (λ j. events_of j n) (let e : i + 0 ≡ i = omega arith in e))
 places_upto n i (p ∷ slots) seated done =
@@ -72,8 +73,8 @@ history_upto bounds e seated settled all =
     let system_seat : length (part (length bounds + 1) n) ≤ made_by e.system_seat =
     subst (λ j. length (part j n) ≤ made_by e.system_seat) seated.system_seat settled.system_seat in
     let next_one : events_of (length bounds + 2) n ≡ events_of (length bounds + 1) n
-    + length (part (length bounds + 1) n) = ap (λ j. events_of j n) (let e : length bounds + 2
-    ≡ suc (length bounds + 1) = omega arith in e) in
+    + length (part (length bounds + 1) n) = ap (λ j. events_of j n)
+    (let e : length bounds + 2 ≡ suc (length bounds + 1) = omega arith in e) in
     let upto_places : events_of (length bounds + 2 + length e.slots) n ≤ events_of (length bounds + 2) n
     + sum_by (λ p. made_in (seat_in p)) e.slots =
     places_upto n (length bounds + 2) e.slots seated.slots

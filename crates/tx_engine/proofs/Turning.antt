@@ -1,5 +1,5 @@
 -- What steps of a session are in the engine state that the engine holds.
-use Rattle.std.proofs.Common.{◌≡◌, ℕ, Bool, true, false, cond, List, [], ◌∷◌, ◌++◌, slice_set, Some, Ok, Err, inl, inr, refl, sym, ap, subst, ◌∙◌, append_assoc}
+use Rattle.std.proofs.Common.{◌≡◌, ℕ, Bool, true, false, cond, List, [], ◌∷◌, ◌++◌, slice_set, Some, None, Ok, Err, inl, inr, refl, sym, ap, subst, ◌∙◌, append_assoc}
 use Rattle.tx_types.specs.declared.fault.Cause.{Cause}
 use Rattle.tx_types.specs.declared.key.Key.{Key}
 use Rattle.tx_plan.specs.declared.body.Body.{Body}
@@ -13,10 +13,13 @@ use Rattle.tx_reply.specs.declared.reply.ScriptReply.{ScriptReply}
 use Rattle.tx_steps.specs.declared.delivery.Delivery.{Delivery}
 use Rattle.tx_steps.specs.Steps.{Text}
 use Rattle.tx_network.specs.Networks.{NetworkParts, NetworkState, network_state, IsSet, takes_memory, Passes, Met, Reach, Runs}
-use Rattle.tx_edits.specs.Edits.{is_refused, later_of}
-use Rattle.tx_engine.specs.Semantics.{session, EngineState, Transition, goes, stops, at_network, seat_at, with_session, answers, asked, sent, runs, runs_to}
+use Rattle.tx_steps.specs.declared.call.Call.{Call}
+use Rattle.tx_ops.specs.Edits.{is_refused, later_of}
+use Rattle.tx_ops.specs.Calls.{Said, call_walk}
+use Rattle.tx_ops.proofs.Ending.{call_stops}
+use Rattle.tx_engine.specs.Semantics.{session, EngineState, Transition, goes, stops, at_network, seat_at, with_session, answers, asked, sent, runs, came, sends_by}
 use Rattle.tx_engine.specs.Plays.{Leads}
-use Rattle.tx_engine.specs.Slots.{engine_with, GoesTo, SessionGoes, Sent, Did}
+use Rattle.tx_engine.specs.Slots.{engine_with, GoesTo, SessionGoes, Stays, Did}
 use Rattle.tx_engine.proofs.Acting.{still_acts, acts_so, sent_acts}
 use Rattle.tx_engine.proofs.Keeping.{set_here}
 use Rattle.tx_network.proofs.Stages.{set_regions, set_newest, set_trace, set_network, set_runs}
@@ -176,34 +179,17 @@ module _ (bounds : List Key) where
       (λ i. engine_with (sym at i) ticks names ((sym (set_here slots k (session old) there) ∙ ap
       (λ s. slice_set slots k (session s)) (sym same)) i)) also
 
-  -- the requests of a call
-  pub session_runs : {R : Type 0} (turn : List Bool → EngineState → ℕ → SessionState
-      → Transition) (n : ℕ) (old new : SessionState) (from to : NetworkState) (told : ScriptReply) (bits : List Bool)
-      (delivery : Delivery Text) (w : Walk (SessionState × R)) (say : R → ScriptReply) (result : R)
-      → ((later : List Bool) (engine : EngineState) (k : ℕ)
-      → turn (bits ++ later) engine k old ≡ runs_to bounds say k delivery later engine w)
-      → Runs bounds (Some delivery) from w (new, result) to → say result ≡ told
-      → SessionGoes bounds turn n old new from to told
-  session_runs turn n old new from to told bits delivery w say result is run also ticks names slots k number there =
-      let engine = engine_with from ticks names slots in
+  -- the requests of a call that tells its line something
+  session_sends : (what : Call Text) (delivery : Delivery Text) (n : ℕ) (old new : SessionState)
+      (from to : NetworkState) (told : ScriptReply)
+      → Runs bounds (Some delivery) from (call_walk bounds old what) (new, Ok told) to
+      → SessionGoes bounds (λ refused engine k s. sends_by refused engine k s bounds what delivery) n old new from to
+      told
+  session_sends what delivery n old new from to told run ticks names slots k number there =
       let led = runs_lead bounds (λ later next said left. (next
       ≡ engine_with to ticks names (slice_set slots k (session new))) × (said ≡ told)
-      × (left ≡ later)) delivery w engine (
-        new,
-        result,
-      ) to run (λ x next left. goes (with_session next k x.0) (say x.1) left) in (
-        bits ++ led.0,
-        λ later. subst (λ all. Leads bounds (λ next said left. (next
-            ≡ engine_with to ticks names (slice_set slots k (session new))) × (said ≡ told)
-            × (left ≡ later)) (λ c. ⊥) (turn all engine k old)) (sym (append_assoc bits led.0 later))
-            (subst (Leads bounds (λ next said left. (next
-            ≡ engine_with to ticks names (slice_set slots k (session new))) × (said ≡ told)
-            × (left ≡ later)) (λ c. ⊥)) (sym (is (led.0 ++ later) engine k)) (led.1 later later (
-              refl,
-              also,
-              refl,
-            ))),
-      )
+      × (left ≡ later)) delivery (call_walk bounds old what) (engine_with from ticks names slots) (new, Ok told) to run
+      (λ x next left. came k x.0 x.1 next left) in (led.0, λ later. led.1 later later (refl, refl, refl))
 
 -- ---- what a session's step did
 
@@ -214,7 +200,7 @@ module _ (bounds : List Key) (turn : List Bool → EngineState → ℕ → Sessi
       → Did bounds turn (Err c) old old network network
   did_not old network c stop = (
     refl,
-    refl,
+    (network.delivery, refl),
     λ refused ticks names slots k.
         stop refused (engine_with (network_state network) ticks names slots) k,
   )
@@ -225,24 +211,30 @@ module _ (bounds : List Key) (turn : List Bool → EngineState → ℕ → Sessi
       → Did bounds turn (Ok said) old new network network
   did_change old new network said seat on = still_acts old.seat new.seat network network _ seat refl refl refl on
 
-  -- it sends
-  pub did_send : {R : Type 0} (old new : Seated) (from at to : NetworkParts) (bits : List Bool)
-      (delivery : Delivery Text) (w : Walk (SessionState × R)) (say : R → ScriptReply) (result : R) (said : ScriptReply)
-      → IsSet delivery from at
-      → Sends (λ (x : NetworkParts) q y z. Passes bounds x.delivery x q y z) bounds old.seat at w (
-        new.state,
-        result,
-      ) to new.seat
-      → ((later : List Bool) (engine : EngineState) (k : ℕ)
-      → turn (bits ++ later) engine k old.state ≡ runs_to bounds say k delivery later engine w) → said ≡ say result
-      → Sent bounds turn said old new from to
-  did_send old new from at to bits delivery w say result said set sent is also =
-      let acts = sent_acts bounds w old.seat new.seat from at to (
-        new.state,
-        result,
-      ) (set_regions delivery from at set) (set_newest delivery from at set) (set_trace delivery from at set)
+-- nothing changes where only the delivery of the next requests is set
+set_stays : (delivery : Delivery Text) (from at to : NetworkParts) → IsSet delivery from at → to ≡ at → Stays from to
+set_stays delivery from at to (inl is) same = (Some delivery, same ∙ is)
+set_stays delivery from at to (inr (hold, is)) same = (None, same ∙ is)
+
+-- it sends, by the delivery that was set
+module _ (bounds : List Key) (what : Call Text) (delivery : Delivery Text) (old new : Seated)
+    (from at to : NetworkParts) (set : IsSet delivery from at) where
+  pub did_send : (r : Said) → Sends (λ (x : NetworkParts) q y z. Passes bounds x.delivery x q y z) bounds old.seat at
+      (call_walk bounds old.state what) (new.state, r) to new.seat
+      → Did bounds (λ refused engine k s. sends_by refused engine k s bounds what delivery) r old new from to
+  did_send (Ok said) sent =
+      let acts = sent_acts bounds (call_walk bounds old.state what) old.seat new.seat from at to (new.state, Ok said)
+      (set_regions delivery from at set) (set_newest delivery from at set) (set_trace delivery from at set)
       (set_network delivery from at set) sent in
       acts_so old.seat new.seat from to _ _ acts
-      (λ run. session_runs bounds turn old.seat.seat old.state new.state (network_state from)
-      (network_state to) said bits delivery w say result is (set_runs bounds delivery from at w (network_state from)
-      (new.state, result) (network_state to) set run) (sym also))
+      (λ run. session_sends bounds what delivery old.seat.seat old.state new.state (network_state from)
+      (network_state to) said (set_runs bounds delivery from at (call_walk bounds old.state what) (network_state from)
+      (new.state, Ok said) (network_state to) set run))
+  did_send (Err c) sent =
+      let stopped = call_stops (λ (x : NetworkParts) q y z. Passes bounds x.delivery x q y z) bounds old.seat new.seat
+      at to old.state new.state what c sent in (
+        λ i. record { state = stopped.1 i; seat = stopped.3 i },
+        set_stays delivery from at to set stopped.2,
+        λ refused ticks names slots k. ap (λ w. runs bounds delivery refused
+            (engine_with (network_state from) ticks names slots) w (λ x next left. came k x.0 x.1 next left)) stopped.0,
+      )

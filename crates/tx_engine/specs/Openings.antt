@@ -3,10 +3,10 @@ use Rattle.std.specs.Prelude.{◌≡◌, ℕ, suc, List, [], ◌∷◌, length}
 use Rattle.tx_journal.specs.Known.{Known, known}
 use Rattle.tx_engine.specs.declared.slots.SessionSlot.TheVariants.{Free}
 use Rattle.tx_engine.specs.Semantics.{opening}
-use Rattle.tx_engine.specs.Slots.{Kept, Held, engine_state, own}
+use Rattle.tx_engine.specs.Slots.{SlotContent, Held, engine_state, own}
 
 -- a slot for each seat
-abbrev pub frees : List Known → List Kept
+abbrev pub frees : List Known → List SlotContent
 frees [] = []
 frees (k ∷ seats) = Free k ∷ frees seats
 

@@ -20,26 +20,24 @@ use Rattle.tx_core.specs.declared.event.Outcome.{Outcome}
 use Rattle.tx_core.specs.declared.event.Event.TheVariants.{Drawn, Began, Declared, Answered, Stopped}
 use Rattle.tx_core.specs.Histories.{History, last}
 use Rattle.tx_transaction.specs.declared.state.Terms.{Terms}
-use Rattle.tx_transaction.specs.declared.state.Phase.TheVariants as phase
 use Rattle.tx_transaction.specs.declared.state.Response.{Response}
 use Rattle.tx_transaction.specs.declared.state.Response.TheVariants as response
 use Rattle.tx_client.specs.declared.resolved.Status.{Status}
 use Rattle.tx_client.specs.declared.resolved.Status.TheVariants as status
 use Rattle.tx_client.specs.declared.resolved.WaitCause.TheVariants as wait
-use Rattle.tx_transaction.specs.declared.state.Miss.{Miss}
-use Rattle.tx_transaction.specs.declared.state.Miss.TheVariants as miss
 use Rattle.tx_transaction.specs.Buffers.{Entries, buffered, is_known}
 use Rattle.tx_transaction.specs.Sessions.{SessionState, begun, is_declared, has_primary, exceeds, declaration, due_prewrite, due_commit, due_abort, can_draw, can_commit, can_abort, finish_of, notes_one, with_passed}
 use Rattle.tx_client.specs.Statuses.{lies_above}
-use Rattle.tx_client.specs.Walks.{Walk, asks, grows, ends, due_walk, heartbeat_walk, get_walk, scan_walk}
+use Rattle.tx_client.specs.Walks.{Walk, asks, grows, ends}
 use Rattle.tx_resolve.specs.declared.collector.Counts.{Counts}
-use Rattle.tx_resolve.specs.Reading.{read_walk}
-use Rattle.tx_resolve.specs.Collecting.{gc_walk}
+use Rattle.tx_resolve.specs.BlockedReads.{read_walk}
+use Rattle.tx_resolve.specs.Collection.{gc_walk}
 use Rattle.tx_steps.specs.declared.delivery.Delivery.TheVariants as deliveries
 use Rattle.tx_reply.specs.declared.reply.ScriptReply.{ScriptReply}
 use Rattle.tx_reply.specs.declared.reply.ScriptReply.TheVariants as reply
-use Rattle.tx_edits.specs.Edits.{Edit, is_refused, later_of, puts, inserts, deletes, locks}
-use Rattle.tx_edits.specs.Edits as edit
+use Rattle.tx_ops.specs.Edits.{Edit, is_refused, later_of, puts, inserts, deletes, locks}
+use Rattle.tx_ops.specs.Edits as edit
+use Rattle.tx_ops.specs.Calls.{Said, call_walk}
 use Rattle.tx_types.specs.Names.{is_name}
 use Rattle.tx_steps.specs.declared.delivery.Delivery.{Delivery}
 use Rattle.tx_steps.specs.Steps.{Text}
@@ -203,37 +201,10 @@ module _ (bounds : List Key) where
   runs delivery refused engine (asks body more) on =
       sent delivery refused engine body (λ c next left. runs delivery left next (more c) on)
 
-  -- the requests of a session's call, which comes to a state and to a reply
-  abbrev pub runs_to : {R : Type 0} → (R → ScriptReply) → ℕ → Delivery Text → List Bool → EngineState
-      → Walk (SessionState × R) → Transition
-  runs_to say k delivery refused engine w = runs delivery refused engine w
-      (λ x next left. goes (with_session next k x.0) (say x.1) left)
-
--- ---- replies
-
-abbrev pub missed_by : Miss → ScriptReply
-missed_by miss.Lost = reply.Lost
-missed_by miss.Fault = reply.OutOfMemory
-
-abbrev pub answered_by : Option Answer → ScriptReply
-answered_by None = reply.Done
-answered_by (Some a) = reply.Answered a
-
--- what a change of a buffer gives
-abbrev pub entered_by : {T : Type 0} → Result T Fault → ScriptReply
-entered_by (Ok x) = reply.Fine
-entered_by (Err fault.TooManyKeys) = reply.TooManyKeys
-entered_by (Err _) = reply.OutOfMemory
-
--- what a call that sends what is due gives
-abbrev pub said_by : Result (Option Answer) Miss → ScriptReply
-said_by (Ok o) = answered_by o
-said_by (Err m) = missed_by m
-
--- what a read gives
-abbrev pub read_by : Result Answer Miss → ScriptReply
-read_by (Ok a) = reply.Answered a
-read_by (Err m) = missed_by m
+-- what a call came to: a state of its session and what its line is told, or it is not allowed
+abbrev pub came : ℕ → SessionState → Said → EngineState → List Bool → Transition
+came k s (Ok said) engine left = goes (with_session engine k s) said left
+came k s (Err cause) engine left = stops cause
 
 -- ---- slots
 
@@ -285,33 +256,6 @@ module _ (refused : List Bool) (engine : EngineState) (k : ℕ) (s : SessionStat
     draws = if can_draw s then goes (drew bounds engine k s) (reply.Drawn (last engine.network.history + 1)) refused
         else stops Order
 
-    abbrev pub gets : List ℕ → Delivery Text → Transition
-    gets key delivery =
-        if not (is_key key) then goes engine reply.KeyLength refused
-        else calls refused engine (λ left. runs_to bounds read_by k delivery left engine (get_walk s key))
-
-    abbrev pub scans : List ℕ → List ℕ → ℕ → Delivery Text → Transition
-    scans from to limit delivery =
-        if not (is_key from && is_key to) then goes engine reply.KeyLength refused
-        else calls refused engine (λ left. runs_to bounds read_by k delivery left engine
-        (scan_walk s bounds from to limit))
-
-    abbrev pub prewrites : Delivery Text → Transition
-    prewrites delivery = if is_declared s then runs_to bounds said_by k delivery refused engine
-        (due_walk s phase.Prewrite (due_prewrite s)) else stops Order
-
-    abbrev pub commits : Delivery Text → Transition
-    commits delivery = if can_commit s then runs_to bounds said_by k delivery refused engine
-        (due_walk s phase.Commit (due_commit s)) else stops Order
-
-    abbrev pub aborts : Delivery Text → Transition
-    aborts delivery = if can_abort s then runs_to bounds said_by k delivery refused engine
-        (due_walk s phase.Abort (due_abort s)) else stops Order
-
-    abbrev pub beats : ℕ → Delivery Text → Transition
-    beats ttl delivery = if has_primary s then runs_to bounds said_by k delivery refused engine (heartbeat_walk s ttl)
-        else stops Order
-
     -- what a live session does by itself in its slot; what takes it out of there follows below
     abbrev pub edits : Op Text → Transition
     edits (op.Put key value) = edited engine k s (puts refused s key value)
@@ -322,14 +266,10 @@ module _ (refused : List Bool) (engine : EngineState) (k : ℕ) (s : SessionStat
     edits op.Draw = draws
     edits _ = stops Order
 
-    -- what a live session sends, by what it is
+    -- what a live session sends: the requests of its call's walk
     abbrev pub sends_by : Call Text → Delivery Text → Transition
-    sends_by (call.Get key) delivery = gets key delivery
-    sends_by (call.Scan from to limit) delivery = scans from to limit delivery
-    sends_by call.Prewrite delivery = prewrites delivery
-    sends_by call.Commit delivery = commits delivery
-    sends_by call.Abort delivery = aborts delivery
-    sends_by (call.Heartbeat ttl) delivery = beats ttl delivery
+    sends_by what delivery =
+        runs bounds delivery refused engine (call_walk bounds s what) (λ x next left. came k x.0 x.1 next left)
 
     -- what a live session sends, where that may go as its step says, and is not held as one too
     -- many

@@ -23,21 +23,22 @@ use Rattle.tx_engine.specs.declared.slots.SessionSlot.TheVariants.{Free, Live, L
 use Rattle.tx_reply.specs.declared.reply.ScriptReply.{ScriptReply}
 use Rattle.tx_reply.specs.declared.reply.ScriptReply.TheVariants as replies
 use Rattle.tx_network.specs.Networks.{NetworkParts, network_state, NetworkState, made_by, IsDone, AreNumbered, IsTraced, GoesOnWith, KeptAs, NotesDrawn}
+use Rattle.tx_steps.specs.declared.delivery.Delivery.{Delivery}
 use Rattle.tx_steps.specs.declared.step.Step.{Step}
 use Rattle.tx_steps.specs.Steps.{Text}
 use Rattle.tx_engine.specs.Semantics.{SlotState, free, session, EngineState, Transition, stops, live_at, seat_at, resolves, delivers, inspects, turn}
 use Rattle.tx_engine.specs.Plays.{Leads}
 
 -- what a slot has
-abbrev pub Kept : Type 0
-Kept = SessionSlot Known Seated
+abbrev pub SlotContent : Type 0
+SlotContent = SessionSlot Known Seated
 
-abbrev pub seat_in : Kept → Option Known
+abbrev pub seat_in : SlotContent → Option Known
 seat_in (Free k) = Some k
 seat_in (Live s) = Some s.seat
 seat_in Lent = None
 
-abbrev pub slot_of : Kept → SlotState
+abbrev pub slot_of : SlotContent → SlotState
 slot_of (Free k) = free
 slot_of (Live s) = session s.state
 slot_of Lent = session (begun 0)
@@ -47,7 +48,7 @@ pub record Held : Type 0 where
   pub network : NetworkParts
   pub system_seat : Known
   pub names : List (List ℕ × ℕ)
-  pub slots : List Kept
+  pub slots : List SlotContent
 
 -- names by their bytes, with their slots
 abbrev pub texts : List (String Global × ℕ) → List (List ℕ × ℕ)
@@ -84,7 +85,7 @@ IsSeat i n None = ⊥
 IsSeat i n (Some k) = (k.seat ≡ i) × (n ≤ k.ticks)
 
 -- the seats of these slots are i and those that follow it, and each may draw so many ticks
-abbrev pub AreSeated : ℕ → ℕ → List Kept → Type 0
+abbrev pub AreSeated : ℕ → ℕ → List SlotContent → Type 0
 AreSeated i n [] = Unit {0}
 AreSeated i n (p ∷ slots) = IsSeat i n (seat_in p) × AreSeated (suc i) n slots
 
@@ -95,7 +96,7 @@ pub record AllSeated (bounds : List Key) (n : ℕ) (e : Held) : Type 0 where
   pub slots : AreSeated (length bounds + 2) n e.slots
 
 -- no live session has this name, where each slot has a seat
-abbrev pub NamesNone : List Key → BTreeMap (String Global) ℕ → List Kept → List ℕ → Type 0
+abbrev pub NamesNone : List Key → BTreeMap (String Global) ℕ → List SlotContent → List ℕ → Type 0
 NamesNone bounds names slots name = (e : Held) → e.names ≡ texts names.entries → e.slots ≡ slots → AllSeated bounds 1 e
     → live_at (engine_state e) name ≡ None
 
@@ -169,17 +170,21 @@ abbrev pub Sent : List Key → (List Bool → EngineState → ℕ → SessionSta
 Sent bounds turn reply old new from to = Acts old.seat new.seat from to
     (SessionGoes bounds turn old.seat.seat old.state new.state (network_state from) (network_state to) reply)
 
+-- nothing changes but what becomes of the next requests
+abbrev pub Stays : NetworkParts → NetworkParts → Type 0
+Stays from to = (delivery : Option (Delivery Text)) × (to ≡ record from { delivery = delivery })
+
 -- a step of a session: it goes on, or it is not allowed and changes nothing
 abbrev pub Did : List Key → (List Bool → EngineState → ℕ → SessionState → Transition) → Result ScriptReply Cause
     → Seated → Seated → NetworkParts → NetworkParts → Type 0
 Did bounds turn (Ok reply) old new from to = Sent bounds turn reply old new from to
-Did bounds turn (Err cause) old new from to = (new ≡ old) × (to ≡ from)
+Did bounds turn (Err cause) old new from to = (new ≡ old) × Stays from to
     × ((refused : List Bool) (ticks : ℕ) (names : List ℕ → Option ℕ) (slots : List SlotState) (k : ℕ)
     → turn refused (engine_with (network_state from) ticks names slots) k old.state ≡ stops cause)
 
 -- what a step of a session does at a slot: the live session there makes it; with none it is not
 -- allowed, and changes nothing
-abbrev pub ActsIn : List Key → (List Bool → EngineState → ℕ → SessionState → Transition) → Kept → Kept
+abbrev pub ActsIn : List Key → (List Bool → EngineState → ℕ → SessionState → Transition) → SlotContent → SlotContent
     → Result ScriptReply Cause → NetworkParts → NetworkParts → Type 0
 ActsIn bounds turn (Live s) new result from to = (t : Seated) × (new ≡ Live t) × Did bounds turn result s t from to
 ActsIn bounds turn old new result from to = (result ≡ Err cause.Name) × (new ≡ old) × (to ≡ from)
@@ -261,4 +266,4 @@ pub record Settled (bounds : List Key) (e : Held) : Type 0 where
   pub regions : (k : Known) → Contains e.network.regions k → IsDone e.network.newest k
   pub numbers : AreNumbered 0 e.network.regions
   pub system_seat : IsDone e.network.newest e.system_seat
-  pub slots : (p : Kept) → Contains e.slots p → Done e.network.newest (seat_in p)
+  pub slots : (p : SlotContent) → Contains e.slots p → Done e.network.newest (seat_in p)

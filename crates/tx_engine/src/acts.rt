@@ -52,7 +52,8 @@ fn declaration_of<J: JournalId, F: Families>(
         session.now.state.buffer terms.now) result }
 {
     if network.is_traced() {
-        session.declaration(alloc, session.placed(), terms)
+        let transaction = session.transaction();
+        transaction.declaration(alloc, transaction.placed(), terms)
     } else {
         Ok(None)
     }
@@ -90,7 +91,7 @@ fn note_declared<J: JournalId, F: Families>(
     if !session.has_primary() {
         return;
     }
-    network.drew(session.placed());
+    network.drew(session.transaction().placed());
     let copy = declaration_of(alloc, session, network, terms);
     note_copy(network, copy);
 }

@@ -12,7 +12,7 @@ ghost use Rattle.tx_steps.specs.declared.step.Step.TheVariants as steps;
 
 use crate::acts::{begin_at, finish_at, read_at, stop_at, tick_at};
 use crate::operations::{deliver, edit_in, is_key, send_in, versions};
-use crate::resolving::{Direct, collected_as, gc_at, resolve_at};
+use crate::resolver::{Direct, collected_as, gc_at, resolve_at};
 use crate::slots::{SessionSlot, first_free, lend, slot_at, swap_slot};
 use std::alloc::{AllocError, Global};
 use std::collections::BTreeMap;

@@ -7,7 +7,7 @@ mod acts;
 mod engine;
 mod opening;
 mod operations;
-mod resolving;
+mod resolver;
 mod slots;
 
 pub use engine::Engine;

@@ -1,30 +1,28 @@
-//! What live sessions do. Each function makes the step that `Semantics.antt` defines: its tests in
-//! that order, its requests, its reply.
+//! What live sessions do. Each function makes the step that `Semantics.antt` defines. What a line
+//! does to a session alone, and what it sends, tx_ops says; here it is done in one thread, over the
+//! network.
 ghost use Rattle.std.specs.Prelude.{◌≡◌, ◌<◌};
 ghost use Rattle.tx_client.specs.Calls.{Seated};
 ghost use Rattle.tx_engine.specs.Slots.{ActsIn, Did};
 ghost use Rattle.tx_engine.specs.declared.slots.SessionSlot.TheVariants as session_slot;
 ghost use Rattle.tx_types.specs.Lengths.{is_key as key_test};
-ghost use Rattle.tx_engine.specs.Semantics.{edits, is_sent, is_too_many, sends_by, sends};
+ghost use Rattle.tx_engine.specs.Semantics.{declares, draws, edits, is_sent, is_too_many, sends};
 ghost use Rattle.tx_network.specs.Networks.{network_state};
 ghost use Rattle.tx_steps.specs.Steps.{acted, called, delivered};
 
-mod buffer;
 mod delivery;
-mod sending;
 mod versions;
 
-use crate::operations::buffer::declare;
+use crate::acts::{declare_at, draw_at};
 pub(crate) use crate::operations::delivery::deliver;
-use crate::operations::sending::{abort, commit, draw, get, heartbeat, prewrite, scan};
 pub(crate) use crate::operations::versions::versions;
 use crate::slots::SessionSlot;
 use std::alloc::Global;
 use tx_cells::Families;
-use tx_client::{Session, Terms};
-use tx_edits::{delete, insert, lock, put};
+use tx_client::{Phase, Session, Terms};
 use tx_journal::{JournalId, Seat};
 use tx_network::Network;
+use tx_ops::act;
 use tx_reply::ScriptReply;
 use tx_steps::{Call, Delivery, Op};
 use tx_types::{Cause, Ts};
@@ -45,7 +43,45 @@ fn stamp(number: Option<u64>) -> Option<Ts>
     }
 }
 
-// What a live session does by itself in its slot.
+// A session declares its buffer, once.
+#[inline(never)]
+fn declare<J: JournalId, F: Families>(
+    alloc: Global,
+    session: &mut Session<J>,
+    network: &mut Network<J, F>,
+    terms: Terms,
+) -> Result<ScriptReply, Cause>
+    requires ticks { 0 < session.old.seat.ticks }
+    ensures { Did J.bounds (λ refused engine k s. declares refused engine k s J.bounds terms) result session.old
+        session.new network.old network.new }
+{
+    if session.is_declared() {
+        return Err(Cause::Order);
+    }
+    match declare_at(alloc, session, network, terms) {
+        Ok(()) => Ok(ScriptReply::Fine),
+        Err(_) => Ok(ScriptReply::TooManyKeys),
+    }
+}
+
+// A session draws its commit timestamp, where its state allows it.
+#[inline(never)]
+fn draw<J: JournalId, F: Families>(
+    session: &mut Session<J>,
+    network: &mut Network<J, F>,
+) -> Result<ScriptReply, Cause>
+    requires ticks { 0 < session.old.seat.ticks }
+    ensures { Did J.bounds (λ refused engine k s. draws refused engine k s J.bounds) result session.old session.new
+        network.old network.new }
+{
+    if !session.can_draw() {
+        return Err(Cause::Order);
+    }
+    Ok(ScriptReply::Drawn(draw_at(session, network)))
+}
+
+// What a live session does by itself in its slot: what makes an event knows what is newest first,
+// and what is newest afterwards is what it knows.
 fn edit<J: JournalId, F: Families>(
     alloc: Global,
     session: &mut Session<J>,
@@ -57,10 +93,6 @@ fn edit<J: JournalId, F: Families>(
         session.new network.old network.new }
 {
     match *op {
-        Op::Put(key, value) => put(alloc, session, key, value),
-        Op::Insert(key, value) => insert(alloc, session, key, value),
-        Op::Delete(key) => delete(alloc, session, key),
-        Op::Lock(key) => lock(alloc, session, key),
         Op::Declare(mode, ttl, max_commit) => {
             let terms = Terms {
                 mode,
@@ -70,7 +102,7 @@ fn edit<J: JournalId, F: Families>(
             declare(alloc, session, network, terms)
         }
         Op::Draw => draw(session, network),
-        Op::Finish | Op::Stop | Op::Resolve(_) => Err(Cause::Order),
+        _ => act(alloc, session, op),
     }
 }
 
@@ -78,12 +110,13 @@ fn edit<J: JournalId, F: Families>(
 fn is_sent<J: JournalId>(session: &Session<J>, call: &Call<&str>) -> bool
     ensures { result ≡ is_sent session.now.state (called call.now) }
 {
+    let transaction = session.transaction();
     match *call {
-        Call::Get(key) => !session.is_known(key.as_bytes()),
+        Call::Get(key) => !transaction.is_known(key.as_bytes()),
         Call::Scan(from, to, _) => from < to,
-        Call::Prewrite => session.is_declared() && session.has_prewrite(),
-        Call::Commit => session.can_commit() && session.has_commit(),
-        Call::Abort => session.can_abort() && session.has_abort(),
+        Call::Prewrite => session.is_declared() && transaction.is_due(Phase::Prewrite),
+        Call::Commit => session.can_commit() && transaction.is_due(Phase::Commit),
+        Call::Abort => session.can_abort() && transaction.is_due(Phase::Abort),
         Call::Heartbeat(_) => session.has_primary(),
     }
 }
@@ -99,27 +132,6 @@ fn is_too_many<J: JournalId, F: Families>(
         (delivered delivery.now) }
 {
     network.is_crowded(*delivery) && is_sent(session, call)
-}
-
-// What a live session sends, where that may go as its step says.
-fn send_by<J: JournalId, F: Families>(
-    alloc: Global,
-    session: &mut Session<J>,
-    network: &mut Network<J, F>,
-    call: &Call<&str>,
-    delivery: &Delivery<&str>,
-) -> Result<ScriptReply, Cause>
-    ensures { Did J.bounds (λ refused engine k s. sends_by refused engine k s J.bounds (called call.now)
-        (delivered delivery.now)) result session.old session.new network.old network.new }
-{
-    match *call {
-        Call::Get(key) => get(alloc, session, network, key, *delivery),
-        Call::Scan(from, to, limit) => scan(alloc, session, network, from, to, limit, *delivery),
-        Call::Prewrite => prewrite(alloc, session, network, *delivery),
-        Call::Commit => commit(session, network, *delivery),
-        Call::Abort => abort(session, network, *delivery),
-        Call::Heartbeat(ttl) => heartbeat(session, network, ttl, *delivery),
-    }
 }
 
 // What a live session sends. `Name` where it is to be held under a name that is in use, or not of 1
@@ -140,7 +152,8 @@ fn send<J: JournalId, F: Families>(
     if is_too_many(session, network, call, delivery) {
         return Err(Cause::Sessions);
     }
-    send_by(alloc, session, network, call, delivery)
+    network.set_delivery(*delivery);
+    tx_ops::send(alloc, session, call, network)
 }
 
 /// The live session of a slot does something by itself there. A slot with none stays as it is, and

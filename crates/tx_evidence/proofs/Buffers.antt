@@ -11,7 +11,7 @@ use Rattle.tx_transaction.specs.declared.state.Progress.{Progress}
 use Rattle.tx_transaction.specs.Buffers.{Entries, fresh, touched, put_over, insert_over, buffered, with_progress, is_full}
 use Rattle.tx_transaction.specs.Sessions.{SessionState, is_declared}
 use Rattle.tx_evidence.specs.Buffers.{ByMutation, AllBy}
-use Rattle.tx_edits.specs.Edits.{Edit, is_refused, is_value, grown, changes, puts, inserts, inserts_by, deletes, locks, stops, says, enters}
+use Rattle.tx_ops.specs.Edits.{Edit, is_refused, is_value, grown, changes, puts, inserts, inserts_by, deletes, locks, stops, says, enters}
 use Rattle.tx_reply.specs.declared.reply.ScriptReply.{ScriptReply}
 use Rattle.tx_reply.specs.declared.reply.ScriptReply.TheVariants as reply
 

@@ -32,9 +32,9 @@ use Rattle.tx_client.specs.declared.resolved.WaitCause.TheVariants as cause
 use Rattle.tx_client.specs.Facts.{WasAnswered, RespondsSo}
 use Rattle.tx_client.specs.Walks.{Walk, asks, grows, ends, then_walk, due_walk, heartbeat_walk, get_by, get_walk, enough, part_by, part_walk, scan_after, scan_from, scan_walk, greater, lesser}
 use Rattle.tx_resolve.specs.declared.collector.Counts.{Counts}
-use Rattle.tx_resolve.specs.Resolving.{caller_of, is_over, lets_pass, is_async, other_by, further, check_of, settle_of, standing_by, primary_by, status_of, settled_by, settle_walk, others_walk, after_forced, forced_walk, after_others, expired_walk, after_primary, resolve_walk}
-use Rattle.tx_resolve.specs.Reading.{read_walk}
-use Rattle.tx_resolve.specs.Collecting.{on_ok, in_regions, raised_by, listed_by, collected_by, raise_walk, list_walk, locks_walk, clear_walk, collect_walk, gc_walk}
+use Rattle.tx_resolve.specs.Resolution.{caller_of, is_over, lets_pass, is_async, other_by, further, check_of, settle_of, standing_by, primary_by, status_of, settled_by, settle_walk, others_walk, after_forced, forced_walk, after_others, expired_walk, after_primary, resolve_walk}
+use Rattle.tx_resolve.specs.BlockedReads.{read_walk}
+use Rattle.tx_resolve.specs.Collection.{on_ok, in_regions, raised_by, listed_by, collected_by, raise_walk, list_walk, locks_walk, clear_walk, collect_walk, gc_walk}
 use Rattle.tx_steps.specs.declared.call.Call.TheVariants as call
 use Rattle.tx_steps.specs.declared.step.Step.TheVariants as step
 use Rattle.tx_steps.specs.declared.delivery.Delivery.{Delivery}
@@ -204,7 +204,8 @@ module _ (bounds : List Key) (entered : Entered) (name : Text) (from to : Key) (
             → Comes Scans l (scan_after t (enough limit all_rows) on)
         enough_rows l all_rows x on more t kept from_there = go (nat_lt (length all_rows) limit) refl
           where
-            go : (b : Bool) → nat_lt (length all_rows) limit ≡ b → Comes Scans l (scan_after t (enough limit all_rows) on)
+            go : (b : Bool) → nat_lt (length all_rows) limit ≡ b
+                → Comes Scans l (scan_after t (enough limit all_rows) on)
             go true is = rw is (more t kept from_there all_rows x)
             go false is = rw is (kept, (at, x.0, x.1, x.2))
 
@@ -220,7 +221,8 @@ module _ (bounds : List Key) (entered : Entered) (name : Text) (from to : Key) (
             on more (after_read s (response.Answered (answer.Rows found))) all start
         looked low high n l begins (response.Answered a) was on more = (all, (scan_of s low high n, was))
 
-        part_comes : (low high : Key) → Comes (PartOf (λ x on. scan_after x.0 x.1 on)) h (part_walk s low high limit rows)
+        part_comes : (low high : Key)
+            → Comes (PartOf (λ x on. scan_after x.0 x.1 on)) h (part_walk s low high limit rows)
         part_comes low high = (
           either_comes (PartOf (λ x on. scan_after x.0 x.1 on)) h (key_lt low high) _ _
               (λ c l begins was. looked low high (limit - length rows) l begins c was)
@@ -349,7 +351,8 @@ ByFault h (Ok a) = Unit {0}
 ByFault h (Err f) = WasRefused h f
 
 then_ok : {A B : Type 0} (w : Walk (Result A Fault)) (next : A → Walk (Result B Fault)) (h : History)
-    → Comes ByFault h w → ((l : History) (a : A) → Comes ByFault l (next a)) → Comes ByFault h (then_walk w (on_ok next))
+    → Comes ByFault h w → ((l : History) (a : A) → Comes ByFault l (next a))
+    → Comes ByFault h (then_walk w (on_ok next))
 then_ok {A} {B} w next h c on = comes_then ByFault ByFault w (on_ok next) h c (λ l r begins by. go l r by)
   where
     go : (l : History) (r : Result A Fault) → ByFault l r → Comes ByFault l (on_ok next r)
@@ -392,7 +395,8 @@ locks_come (info ∷ infos) h =
 
 pub gc_comes : (bounds : List Key) (safe : ℕ) (h : History) → Comes ByFault h (gc_walk bounds safe)
 gc_comes bounds safe h =
-    then_ok _ _ h (regions_come (λ n u. raise_walk safe n) (λ n u l. λ c m begins was. raise_came m _ c was) (length bounds
+    then_ok _ _ h (regions_come (λ n u. raise_walk safe n) (λ n u l. λ c m begins was. raise_came m _ c was)
+    (length bounds
     + 1) 0 tt h)
     (λ l u. then_ok _ _ l (regions_come (λ n v. clear_walk safe n) (λ n v m. then_ok (list_walk safe n) locks_walk m
     (λ c p begins was. list_came p _ c was) (λ p infos. locks_come infos p)) (length bounds + 1) 0 tt l)

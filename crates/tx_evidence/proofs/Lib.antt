@@ -2,6 +2,8 @@
 pub mod Buffers
 -- What walks come to, by what was answered on the way.
 pub mod Coming
+-- What the line of a call is told.
+pub mod Calling
 -- What a reply tells stays so as the history grows.
 pub mod Staying
 -- What the requests of a walk come to, where each of them was answered.

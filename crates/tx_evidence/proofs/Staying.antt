@@ -35,7 +35,8 @@ module _ (bounds : List Key) (entered : Entered) (l h : History) (begins : Begin
   found_on (status.Pushed m) x = (x.0, x.1, x.2, answered_on l h begins _ _ x.3)
   found_on (status.Waiting why) x = tt
 
-  answer_on : (what : Step Text) (a : Answer) → TellsAnswer bounds entered l what a → TellsAnswer bounds entered h what a
+  answer_on : (what : Step Text) (a : Answer) → TellsAnswer bounds entered l what a
+      → TellsAnswer bounds entered h what a
   answer_on (step.Send name (call.Get key) delivery) a (inl own) = inl own
   answer_on (step.Send name (call.Get key) delivery) a (inr x) = inr (x.0, x.1, answered_on l h begins _ a x.2)
   answer_on (step.Send name (call.Scan from to limit) delivery) (answer.Rows rows) x =

@@ -31,6 +31,11 @@ pub either : {T E : Type 0} (r : Result T E) (A B P : Type 0) → (A → P) → 
 either (Ok x) A B P f g a b = f a
 either (Err e) A B P f g a b = g b
 
+-- what holds anyway holds after a failure
+pub anyway : {T E : Type 0} (r : Result T E) (P : Type 0) → P → OnErr r P
+anyway (Ok x) P p = tt
+anyway (Err e) P p = p
+
 -- a map was changed at one key, or at one version
 abbrev pub KeyChanged : {X : Type 0} → (List ℕ → Option X) → (List ℕ → Option X) → List ℕ → Option X → Type 0
 KeyChanged old new key o = (k : List ℕ) → new k ≡ cond (is_eq (slice_cmp nat_cmp key k)) o (old k)

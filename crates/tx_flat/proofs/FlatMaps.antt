@@ -19,7 +19,7 @@ use Rattle.tx_types.specs.declared.write.WriteRec.{WriteRec}
 use Rattle.tx_cells.specs.Contents.{OnKey, Content, IsWhole}
 use Rattle.tx_cells.specs.Afterwards.{OnlyOn}
 use Rattle.tx_spelling.specs.Spelt.{version_cmp}
-use Rattle.tx_cells.proofs.Maps.{key_here, key_elsewhere}
+use Rattle.tx_cells.proofs.Maps.{key_here, key_elsewhere, key_is}
 
 -- ---- look-ups of a map of versions that was changed at one version
 
@@ -64,6 +64,19 @@ module _ {X : Type 0} (old new : List ℕ → Option X) (key : List ℕ) (o : Op
 
   pub off_key : (k : List ℕ) → k ≢ key → new k ≡ old k
   off_key k other = is k ∙ ap (λ b. cond b o (old k)) (key_elsewhere key k other)
+
+  -- the key has what it had
+  pub same_key : old key ≡ o → new ≡ old
+  same_key there = λ i k. each k i
+    where
+      each : (k : List ℕ) → new k ≡ old k
+      each k = elim (cases_Bool (is_eq (slice_cmp nat_cmp key k))) [
+        | inl same ↦ (
+            let one : key ≡ k = (bytes_eq-Decides key k).0 (sym (key_is key k) ∙ same) in
+            is k ∙ ap (λ b. cond b o (old k)) same ∙ sym there ∙ ap old one
+            )
+        | inr other ↦ is k ∙ ap (λ b. cond b o (old k)) other
+      ]
 
 -- maps with the same entries
 pub same_versions : {X : Type 0} (m n : BTreeMap (List ℕ × ℕ) X) → n.entries ≡ m.entries

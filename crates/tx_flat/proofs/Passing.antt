@@ -20,7 +20,7 @@ use Rattle.tx_cells.specs.Contents.{cells_of}
 use Rattle.tx_cells.specs.Heads.{lock_head}
 use Rattle.tx_flat.specs.Flats.{flat_content, fronts_of}
 use Rattle.tx_flat.specs.NextKeys.{IsHeld, FirstOf, lesser_of}
-use Rattle.tx_flat.specs.Positions.{Locks, Writes, coming, locks_where, writes_where, first_of, next_key, comes_before, lock_on, locks_behind, is_to_come, IsPosition, Passes}
+use Rattle.tx_flat.specs.Positions.{Locks, WriteEntries, coming, locks_where, writes_where, first_of, next_key, comes_before, lock_on, locks_behind, is_to_come, IsPosition, Passes}
 use Rattle.tx_flat.proofs.HeldKeys.{In}
 use Rattle.tx_cells.proofs.Reading.{none_found}
 use Rattle.tx_flat.proofs.Retaining.{tied}
@@ -51,7 +51,7 @@ write_first k (Some j) some e = elim (ordered k j) [
     not_itself i = elim (cases_Bool (key_lt i i)) [ inl lt ↦ absurd (lt_itself i lt) | inr ge ↦ ge ]
 
 -- the first of the records to come
-pub front_coming : (o : Option (Bor (List ℕ × ℕ) × Bor WriteRec)) (es : Writes)
+pub front_coming : (o : Option (Bor (List ℕ × ℕ) × Bor WriteRec)) (es : WriteEntries)
     → first_of (fronts_of (coming o es)) ≡ option_map (λ x. x.0.now.0) o
 front_coming None es = refl
 front_coming (Some x) es = refl
@@ -62,11 +62,11 @@ no_locks : (es : Locks) → [] ≡ locks_where (is_to_come None) es
 no_locks [] = refl
 no_locks (e ∷ es) = no_locks es
 
-no_writes : (es : Writes) → [] ≡ writes_where (is_to_come None) es
+no_writes : (es : WriteEntries) → [] ≡ writes_where (is_to_come None) es
 no_writes [] = refl
 no_writes (e ∷ es) = no_writes es
 
-pub ended : (flat : FlatCells) (ls : Locks) (ws : Writes) → IsPosition flat ls ws → IsPosition flat [] []
+pub ended : (flat : FlatCells) (ls : Locks) (ws : WriteEntries) → IsPosition flat ls ws → IsPosition flat [] []
 ended flat ls ws at =
     record {
       locks_rise = at.locks_rise;
@@ -76,7 +76,8 @@ ended flat ls ws at =
       writes_left = no_writes flat.writes.entries;
     }
 
-module _ (flat : FlatCells) (k : Key) (ls : Locks) (ws : Writes) (at : IsPosition flat ls ws) (next : next_key ls ws
+module _ (flat : FlatCells) (k : Key) (ls : Locks) (ws : WriteEntries) (at : IsPosition flat ls ws)
+    (next : next_key ls ws
     ≡ Some k) where
   locks_from : ls ≡ locks_where (key_le k) flat.locks.entries
   locks_from = at.locks_left ∙ ap (λ (o : Option Key). locks_where (is_to_come o) flat.locks.entries) next
@@ -86,8 +87,8 @@ module _ (flat : FlatCells) (k : Key) (ls : Locks) (ws : Writes) (at : IsPositio
 
   -- ---- the slot behind the key
 
-  module _ (ls' : Locks) (ws' : Writes) (el : ls' ≡ locks_where (key_lt k) flat.locks.entries) (ew : ws'
-      ≡ writes_where (key_lt k) flat.writes.entries) where
+  module _ (ls' : Locks) (ws' : WriteEntries) (el : ls' ≡ locks_where (key_lt k) flat.locks.entries)
+      (ew : ws' ≡ writes_where (key_lt k) flat.writes.entries) where
     pub place_behind : IsPosition flat ls' ws'
     place_behind = slot flat (key_lt k) (lt_upward k) ls' ws' at.locks_rise at.writes_rise el ew
 
@@ -160,13 +161,13 @@ module _ (flat : FlatCells) (k : Key) (ls : Locks) (ws : Writes) (at : IsPositio
 
 -- ---- a key that has a lock and no write record
 
-starts_above : (k : Key) (es : Writes) → comes_before k (first_of (fronts_of es)) ≡ true
+starts_above : (k : Key) (es : WriteEntries) → comes_before k (first_of (fronts_of es)) ≡ true
     → StartsAbove (λ (x : (List ℕ × ℕ) × WriteRec). x.0.0) k es
 starts_above k [] e = tt
 starts_above k (x ∷ xs) e = e
 
-module _ (flat : FlatCells) (k : Key) (rec : LockRec) (ls : Locks) (ws : Writes) (at :
-    IsPosition flat ((k, rec) ∷ ls) ws) (first : comes_before k (first_of (fronts_of ws)) ≡ true) where
+module _ (flat : FlatCells) (k : Key) (rec : LockRec) (ls : Locks) (ws : WriteEntries)
+    (at : IsPosition flat ((k, rec) ∷ ls) ws) (first : comes_before k (first_of (fronts_of ws)) ≡ true) where
   next_is : next_key ((k, rec) ∷ ls) ws ≡ Some k
   next_is = lock_first k (first_of (fronts_of ws)) first
 
@@ -200,8 +201,8 @@ module _ (flat : FlatCells) (k : Key) (rec : LockRec) (ls : Locks) (ws : Writes)
 
 -- ---- a key that has write records
 
-module _ (flat : FlatCells) (k : Key) (c : ℕ) (rec : WriteRec) (ls : Locks) (ws : Writes) (at :
-    IsPosition flat ls (((k, c), rec) ∷ ws)) (next : next_key ls (((k, c), rec) ∷ ws) ≡ Some k) where
+module _ (flat : FlatCells) (k : Key) (c : ℕ) (rec : WriteRec) (ls : Locks) (ws : WriteEntries)
+    (at : IsPosition flat ls (((k, c), rec) ∷ ws)) (next : next_key ls (((k, c), rec) ∷ ws) ≡ Some k) where
   pub written_left : ((k, c), rec) ∷ ws ≡ writes_where (key_le k) flat.writes.entries
   written_left = writes_from flat k ls (((k, c), rec) ∷ ws) at next
 

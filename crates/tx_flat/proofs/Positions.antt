@@ -29,7 +29,7 @@ use Rattle.tx_plan.proofs.KeyOrder.{lt_itself, lt_le, le_itself, le_cases, lt_th
 use Rattle.tx_flat.specs.declared.FlatCells.{FlatCells}
 use Rattle.tx_flat.specs.Flats.{flat_content, fronts_of}
 use Rattle.tx_flat.specs.NextKeys.{IsHeld, FirstOf, lesser_of}
-use Rattle.tx_flat.specs.Positions.{Locks, Writes, coming, locks_where, writes_where, first_of, next_key, is_to_come, IsPosition}
+use Rattle.tx_flat.specs.Positions.{Locks, WriteEntries, coming, locks_where, writes_where, first_of, next_key, is_to_come, IsPosition}
 use Rattle.tx_spelling.specs.Spelt.{version_cmp, exact_versions}
 use Rattle.tx_flat.proofs.HeldKeys.{In, lock_in, in_lock, write_in, in_write}
 use Rattle.tx_flat.proofs.Above.{less_cases, less_newer}
@@ -290,7 +290,7 @@ fronts_climb [] s = tt
 fronts_climb (e ∷ es) s = (versions_from e.0 es s.0, fronts_climb es s.1)
 
 -- entries behind one of a key's: more of the key, and all that are above it
-pub record AreBehind (k : Key) (all es : Writes) : Type 0 where
+pub record AreBehind (k : Key) (all es : WriteEntries) : Type 0 where
   pub from : AreFrom k (fronts_of es)
   pub rise : Climb (fronts_of es)
   pub above : writes_where (key_lt k) es ≡ writes_where (key_lt k) all
@@ -298,14 +298,14 @@ pub record AreBehind (k : Key) (all es : Writes) : Type 0 where
 abbrev front : (List ℕ × ℕ) × WriteRec → Key
 front e = e.0.0
 
-not_above : (k : Key) (e : (List ℕ × ℕ) × WriteRec) (es : Writes) → e.0.0 ≡ k
+not_above : (k : Key) (e : (List ℕ × ℕ) × WriteRec) (es : WriteEntries) → e.0.0 ≡ k
     → writes_where (key_lt k) (e ∷ es) ≡ writes_where (key_lt k) es
 not_above k e es same = elim (cases_Bool (key_lt k e.0.0)) [
   | inl lt ↦ absurd (lt_itself k (subst (λ (y : Key). IsTrue (key_lt k y)) same lt))
   | inr low ↦ ap (λ b. cond b (e ∷ writes_where (key_lt k) es) (writes_where (key_lt k) es)) low
 ]
 
-pub behind_newest : (k : Key) (all : Writes) (e : (List ℕ × ℕ) × WriteRec) (es : Writes)
+pub behind_newest : (k : Key) (all : WriteEntries) (e : (List ℕ × ℕ) × WriteRec) (es : WriteEntries)
     → IsStrictlySortedBy version_cmp (keys_of all) → e.0.0 ≡ k → e ∷ es ≡ writes_where (key_le k) all
     → AreBehind k all es
 behind_newest k all e es s same is =
@@ -315,13 +315,13 @@ behind_newest k all e es s same is =
       above = sym (not_above k e es same) ∙ above_left front k all (fronts_climb all s) (e ∷ es) is;
     }
 
-pub behind_next : (k : Key) (all : Writes) (e : (List ℕ × ℕ) × WriteRec) (es : Writes) → e.0.0 ≡ k
+pub behind_next : (k : Key) (all : WriteEntries) (e : (List ℕ × ℕ) × WriteRec) (es : WriteEntries) → e.0.0 ≡ k
     → AreBehind k all (e ∷ es) → AreBehind k all es
 behind_next k all e es same are =
     record { from = are.from.1; rise = are.rise.1; above = sym (not_above k e es same) ∙ are.above }
 
 -- the first of another key, and those behind it, are all above the key
-pub behind_other : (k : Key) (all : Writes) (e : (List ℕ × ℕ) × WriteRec) (es : Writes) → (e.0.0 ≡ k → ⊥)
+pub behind_other : (k : Key) (all : WriteEntries) (e : (List ℕ × ℕ) × WriteRec) (es : WriteEntries) → (e.0.0 ≡ k → ⊥)
     → AreBehind k all (e ∷ es) → e ∷ es ≡ writes_where (key_lt k) all
 behind_other k all e es other are = elim (le_cases k e.0.0 are.from.0) [
   | inl lt ↦ sym (part_all front (key_lt k) (e ∷ es) (all_above front k (e ∷ es) are.rise lt)) ∙ are.above
@@ -347,9 +347,9 @@ locks_above k e es all s same is =
 
 -- ---- what is left as the slot of a walk
 
-module _ (flat : FlatCells) (p : Key → Bool) (up : IsUpward p) (locks : Locks) (writes : Writes)
-    (sl : IsStrictlySortedBy (slice_cmp nat_cmp) (keys_of flat.locks.entries)) (sw :
-    IsStrictlySortedBy version_cmp (keys_of flat.writes.entries))
+module _ (flat : FlatCells) (p : Key → Bool) (up : IsUpward p) (locks : Locks) (writes : WriteEntries)
+    (sl : IsStrictlySortedBy (slice_cmp nat_cmp) (keys_of flat.locks.entries))
+    (sw : IsStrictlySortedBy version_cmp (keys_of flat.writes.entries))
     (el : locks ≡ locks_where p flat.locks.entries) (ew : writes ≡ writes_where p flat.writes.entries) where
   abbrev Held : Key → Type 0
   Held j = IsHeld (flat_content flat j)
@@ -424,20 +424,21 @@ module _ (k : Key) where
       ∙ lookup-filter-keys (tree.is_at (slice_cmp nat_cmp k)) (key_lt k) false
       (λ j at. ap (key_lt k) (sym (key_is k j at)) ∙ not_itself k) all
 
-  found_write : (all es : Writes) (q : ℕ) → es ≡ writes_where (key_le k) all → find (k, q) all ≡ find (k, q) es
+  found_write : (all es : WriteEntries) (q : ℕ) → es ≡ writes_where (key_le k) all → find (k, q) all ≡ find (k, q) es
   found_write all es q is =
       sym (lookup-filter-keys (tree.is_at (version_cmp (k, q))) (λ v. key_le k v.0) true
       (λ v at. subst (λ (y : Key). IsTrue (key_le k y)) (front_is k q v at) (le_itself k)) all)
       ∙ ap (find (k, q)) (sym is)
 
-  pub no_write_here : (all es : Writes) (q : ℕ) → es ≡ writes_where (key_le k) all → es ≡ writes_where (key_lt k) all
+  pub no_write_here : (all es : WriteEntries) (q : ℕ) → es ≡ writes_where (key_le k) all
+      → es ≡ writes_where (key_lt k) all
       → find (k, q) all ≡ None
   no_write_here all es q is over =
       found_write all es q is ∙ ap (find (k, q)) over
       ∙ lookup-filter-keys (tree.is_at (version_cmp (k, q))) (λ v. key_lt k v.0) false
       (λ v at. ap (key_lt k) (sym (front_is k q v at)) ∙ not_itself k) all
 
-  module _ (all : Writes) (c : ℕ) (rec : WriteRec) (es : Writes) (is : ((k, c), rec) ∷ es
+  module _ (all : WriteEntries) (c : ℕ) (rec : WriteRec) (es : WriteEntries) (is : ((k, c), rec) ∷ es
       ≡ writes_where (key_le k) all) where
     pub write_here : find (k, c) all ≡ Some rec
     write_here = found_write all (((k, c), rec) ∷ es) c is ∙ find_first (k, c) ((k, c), rec) es refl
@@ -460,7 +461,8 @@ module _ (k : Key) where
       | inr upto ↦ upto
     ]
       where
-        keys_filter : (p : List ℕ × ℕ → Bool) (xs : Writes) → keys_of (filter (λ e. p e.0) xs) ≡ filter p (keys_of xs)
+        keys_filter : (p : List ℕ × ℕ → Bool) (xs : WriteEntries)
+            → keys_of (filter (λ e. p e.0) xs) ≡ filter p (keys_of xs)
         keys_filter p [] = refl
         keys_filter p (x ∷ xs) = elim (cases_Bool (p x.0)) [
           | inl on ↦ ap (λ b. keys_of (cond b (x ∷ filter (λ e. p e.0) xs) (filter (λ e. p e.0) xs))) on
@@ -486,7 +488,7 @@ after_last k v = go (slice_cmp nat_cmp k v.0) refl
     go Greater e = refl
 
 -- behind the last version that a key may have
-pub searched : (k : Key) (es : Writes)
+pub searched : (k : Key) (es : WriteEntries)
     → entries_between version_cmp (Excluded (k, 0)) Unbounded es ≡ writes_where (key_lt k) es
 searched k es = λ i. filter (λ e. after_last k e.0 i) es
 
@@ -504,7 +506,8 @@ from_newest k m v upto = go (slice_cmp nat_cmp k v.0) refl
     go Greater e = refl
 
 -- from the newest version on that a key may have
-pub searched_from : (k : Key) (es : Writes) → ((u : List ℕ × ℕ) (rec : WriteRec) → find u es ≡ Some rec → u.1 < 2 ^ 64)
+pub searched_from : (k : Key) (es : WriteEntries)
+    → ((u : List ℕ × ℕ) (rec : WriteRec) → find u es ≡ Some rec → u.1 < 2 ^ 64)
     → entries_between version_cmp (Included (k, 2 ^ 64 - 1)) Unbounded es ≡ writes_where (key_le k) es
 searched_from k [] fits = refl
 searched_from k (e ∷ es) fits =
@@ -512,7 +515,7 @@ searched_from k (e ∷ es) fits =
     let upto : e.0.1 ≤ 2 ^ 64 - 1 = omega (arith, lt) in
     ap (λ b. cond b (e ∷ entries_between version_cmp (Included (k, 2 ^ 64 - 1)) Unbounded es)
     (entries_between version_cmp (Included (k, 2 ^ 64 - 1)) Unbounded es)) (from_newest k (2 ^ 64 - 1) e.0 upto)
-    ∙ ap (λ (xs : Writes). cond (key_le k e.0.0) (e ∷ xs) xs)
+    ∙ ap (λ (xs : WriteEntries). cond (key_le k e.0.0) (e ∷ xs) xs)
     (searched_from k es (λ u rec f. elim (cases_Bool (is_eq (version_cmp u e.0))) [
       | inl here ↦ fits u e.1 (lookup_head (tree.is_at (version_cmp u)) e es here)
       | inr other ↦ fits u rec (lookup_tail (tree.is_at (version_cmp u)) e es other ∙ f)

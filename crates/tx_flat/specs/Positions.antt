@@ -23,8 +23,8 @@ use Rattle.tx_flat.specs.declared.FlatCells.{FlatCells}
 abbrev pub Locks : Type 0
 Locks = List (Key × LockRec)
 
-abbrev pub Writes : Type 0
-Writes = List ((List ℕ × ℕ) × WriteRec)
+abbrev pub WriteEntries : Type 0
+WriteEntries = List ((List ℕ × ℕ) × WriteRec)
 
 -- entries of which the first is at hand; where none is, nothing is to come
 abbrev pub coming : {K X : Type 0} → Option (Bor K × Bor X) → List (K × X) → List (K × X)
@@ -35,7 +35,7 @@ coming (Some e) es = deref_pair e ∷ es
 abbrev pub locks_where : (Key → Bool) → Locks → Locks
 locks_where passes es = filter (λ e. passes e.0) es
 
-abbrev pub writes_where : (Key → Bool) → Writes → Writes
+abbrev pub writes_where : (Key → Bool) → WriteEntries → WriteEntries
 writes_where passes es = filter (λ e. passes e.0.0) es
 
 abbrev pub first_of : List Key → Option Key
@@ -43,7 +43,7 @@ first_of [] = None
 first_of (k ∷ ks) = Some k
 
 -- the next key of which something is to come
-abbrev pub next_key : Locks → Writes → Option Key
+abbrev pub next_key : Locks → WriteEntries → Option Key
 next_key locks writes = lesser_of (first_of (keys_of locks)) (first_of (fronts_of writes))
 
 -- whether a key comes before another, or there is no other
@@ -66,7 +66,7 @@ is_to_come None k = false
 is_to_come (Some next) k = key_le next k
 
 -- the maps are in order, and of the next key and those after it everything is to come
-pub record IsPosition (flat : FlatCells) (locks : Locks) (writes : Writes) : Type 0 where
+pub record IsPosition (flat : FlatCells) (locks : Locks) (writes : WriteEntries) : Type 0 where
   pub locks_rise : IsStrictlySortedBy (slice_cmp nat_cmp) (keys_of flat.locks.entries)
   pub writes_rise : IsStrictlySortedBy version_cmp (keys_of flat.writes.entries)
   pub locks_left : locks ≡ locks_where (is_to_come (next_key locks writes)) flat.locks.entries
@@ -74,6 +74,6 @@ pub record IsPosition (flat : FlatCells) (locks : Locks) (writes : Writes) : Typ
 
 -- a read at a timestamp sees this of a key, and the walk goes on with the next
 pub record Passes (flat : FlatCells) (at : ℕ) (key : Key) (view : ReadView) (locks : Locks)
-    (writes : Writes) : Type 0 where
+    (writes : WriteEntries) : Type 0 where
   pub shows : ShowsRead (cells_of (flat_content flat key)) at view
   pub next : FirstOf (key_lt key) (λ j. IsHeld (flat_content flat j)) (next_key locks writes)

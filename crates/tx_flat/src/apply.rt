@@ -68,12 +68,11 @@ impl FlatCells {
         ensures numbers { self.new.numbers ≡ self.old.numbers }
         ensures err { IfErr result (λ e. e ≡ Fault.OutOfMemory) }
     {
-        let spelt = key.bytes().copy(alloc)?;
-        let rec = match self.locks.get(&spelt) {
-            Some(bytes) => lock_with_ttl(alloc, bytes, ttl)?,
-            None => return Ok(()),
+        let Some(lock) = self.locks.get_mut(key.bytes()) else {
+            return Ok(());
         };
-        self.locks.insert(spelt, rec)?;
+        let rec = lock_with_ttl(alloc, lock, ttl)?;
+        *lock = rec;
         Ok(())
     }
 
@@ -86,12 +85,11 @@ impl FlatCells {
         ensures numbers { self.new.numbers ≡ self.old.numbers }
         ensures err { IfErr result (λ e. e ≡ Fault.OutOfMemory) }
     {
-        let spelt = key.bytes().copy(alloc)?;
-        let rec = match self.locks.get(&spelt) {
-            Some(bytes) => lock_with_min(alloc, bytes, min)?,
-            None => return Ok(()),
+        let Some(lock) = self.locks.get_mut(key.bytes()) else {
+            return Ok(());
         };
-        self.locks.insert(spelt, rec)?;
+        let rec = lock_with_min(alloc, lock, min)?;
+        *lock = rec;
         Ok(())
     }
 

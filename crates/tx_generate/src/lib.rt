@@ -14,9 +14,9 @@ mod session;
 mod settings;
 mod text;
 mod word;
-mod writing;
+mod writer;
 
 pub use settings::{MAX_LETTERS, ModeChoice, Settings};
 pub use tx_cells::{Makes, Plain};
 pub use tx_text::{Broken, End};
-pub use writing::generate;
+pub use writer::generate;

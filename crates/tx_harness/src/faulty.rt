@@ -2,7 +2,7 @@
 ghost use Rattle.std.specs.Prelude.{◌≡◌, IfSome};
 ghost use Rattle.tx_journal.specs.Senders.{IsHeld, IsSender};
 
-use crate::refusing::Refusing;
+use crate::refusals::Refusing;
 use std::marker::Model;
 use std::mem::replace;
 use std::sync::Wait;

@@ -6,11 +6,11 @@
 mod faulty;
 mod meeting;
 mod opening;
-mod refusing;
+mod refusals;
 mod watched;
 
 pub use faulty::{Delivery, Faulty};
 pub use meeting::Meeting;
 pub use opening::{one_bound, open};
-pub use refusing::Refusing;
+pub use refusals::Refusing;
 pub use watched::{Call, Watch, Watched};

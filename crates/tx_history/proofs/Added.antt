@@ -3,7 +3,7 @@ use Rattle.std.proofs.Common.{◌≡◌, ◌⊎◌, ℕ, ◌+◌, ◌-◌, ◌<�
 use Rattle.std.proofs.lemmas.Bool.{cases_lt}
 use Rattle.tx_order.specs.declared.graph.Edge.{Edge}
 use Rattle.tx_history.specs.declared.recorded.Read.{Read}
-use Rattle.tx_history.specs.Adding.{Adds, Each, IsVersionEdge, IsSeenEdge, IsNextEdge, IsReadEdge, before_edge, after_edge}
+use Rattle.tx_history.specs.Additions.{Adds, Each, IsVersionEdge, IsSeenEdge, IsNextEdge, IsReadEdge, before_edge, after_edge}
 
 pub on_ok : {A E : Type 0} (P Q : Type 0) (r : Result A E) → (P → Q) → OnOk r P → OnOk r Q
 on_ok P Q (Ok a) f h = f h

@@ -10,7 +10,7 @@ use Rattle.tx_history.specs.declared.recorded.After.{After}
 use Rattle.tx_history.specs.declared.recorded.Recorded.{Recorded}
 use Rattle.tx_history.specs.Records.{AreHeads, writers_of, history_of}
 use Rattle.tx_history.specs.Graph.{IsGraph, IsEdge, IsWw, IsWr, IsRw, IsAfter}
-use Rattle.tx_history.specs.Adding.{Adds, Each, IsVersionEdge, IsSeenEdge, IsNextEdge, IsReadEdge, IsAfterEdge, IsOwnOf, IsVersionOf, IsReadOf, IsAfterOf, read_at, pair_at, before_edge, after_edge}
+use Rattle.tx_history.specs.Additions.{Adds, Each, IsVersionEdge, IsSeenEdge, IsNextEdge, IsReadEdge, IsAfterEdge, IsOwnOf, IsVersionOf, IsReadOf, IsAfterOf, read_at, pair_at, before_edge, after_edge}
 
 -- a key past the last has no versions
 no_versions : (r : Recorded) (k : ℕ) → length r.heads.items ≤ k → length (writers_of r k) ≡ 0
@@ -101,7 +101,8 @@ rw_of r e (x, in_reads, has, is) =
     let h = history_of r in
     let (i, lt, same) = read_of r x in_reads in
     let s = read_at r i in
-    let P : Read → Type 0 = λ q. HasVersion h q.key (q.version + 1) × (e ≡ before_edge q.txn (h.writer q.key (q.version + 1))) in
+    let P : Read → Type 0 = λ q. HasVersion h q.key (q.version + 1)
+    × (e ≡ before_edge q.txn (h.writer q.key (q.version + 1))) in
     let at = subst P same (has, is) in
     let high = at.0.1 in
     let back : s.version + 1 - 1 ≡ s.version = omega arith in
@@ -119,7 +120,8 @@ none_in : (xs : List Edge) (e : Edge) → xs ≡ [] → Contains xs e → ⊥
 none_in xs e empty (i, lt, is) = let n = ap length empty in omega (arith, n, lt)
 
 module _ (r : Recorded) (none own versions reads all : List Edge) (empty : none ≡ []) (p : Adds none own (IsOwnOf r))
-    (q : Adds own versions (IsVersionOf r)) (s : Adds versions reads (IsReadOf r)) (t : Adds reads all (IsAfterOf r)) where
+    (q : Adds own versions (IsVersionOf r)) (s : Adds versions reads (IsReadOf r))
+    (t : Adds reads all (IsAfterOf r)) where
   to_edge : (e : Edge) → Contains all e → IsEdge (history_of r) e
   to_edge e is = elim (t.only e is) [
     | inl old ↦ elim (s.only e old) [
@@ -160,7 +162,8 @@ pub of_key : (r : Recorded) (k : ℕ) (ws : List ℕ) (a b : List Edge) → ws �
     → Adds a b (Each (length (writers_of r k)) (IsVersionEdge (writers_of r k)))
 of_key r k ws a b is p = subst (λ q. Adds a b (Each (length q) (IsVersionEdge q))) is p
 
-seen_read : (r : Recorded) (i : ℕ) (s : Read) → i < length r.reads.items → s ≡ get_or r.reads.items i s → s ≡ read_at r i
+seen_read : (r : Recorded) (i : ℕ) (s : Read) → i < length r.reads.items → s ≡ get_or r.reads.items i s
+    → s ≡ read_at r i
 seen_read r i s lt is = is ∙ sym (get_or_default r.reads.items i record { txn = 0; key = 0; version = 0 } s lt)
 
 -- the edges of a read, by its place
@@ -179,7 +182,8 @@ of_pair r i s a b lt is p =
     (is ∙ sym (get_or_default r.after.items i record { earlier = 0; later = 0 } s lt)) p
 
 -- a key's versions end where the next ones begin, or where none are left
-pub versions_upto : (r : Recorded) (k : ℕ) → length (writers_of r k) ≤ slice_index r.heads.items (k + 1) - slice_index r.heads.items k
+pub versions_upto : (r : Recorded) (k : ℕ)
+    → length (writers_of r k) ≤ slice_index r.heads.items (k + 1) - slice_index r.heads.items k
 versions_upto r k =
     let from = slice_index r.heads.items k in
     let n = length-take (slice_index r.heads.items (k + 1) - from) (drop from r.writers.items) in

@@ -46,10 +46,12 @@ along : (h : History) (starts commits : ℕ → ℕ) (e : Edge) → Rises h star
     → RisesAlong starts commits e
 along h starts commits e g (inl (t, lt, is)) = along_before starts commits _ _ e is (g.own t lt)
 along h starts commits e g (inr (inl (k, i, has, more, is))) = along_after starts commits _ _ e is (g.ww k i has more)
-along h starts commits e g (inr (inr (inl (r, in_reads, has, is)))) = along_after starts commits _ _ e is (g.wr r in_reads has)
+along h starts commits e g (inr (inr (inl (r, in_reads, has, is)))) =
+    along_after starts commits _ _ e is (g.wr r in_reads has)
 along h starts commits e g (inr (inr (inr (inl (r, in_reads, has, is))))) =
     along_before starts commits _ _ e is (g.rw r in_reads has)
-along h starts commits e g (inr (inr (inr (inr (p, in_pairs, is))))) = along_after starts commits _ _ e is (g.after p in_pairs)
+along h starts commits e g (inr (inr (inr (inr (p, in_pairs, is))))) =
+    along_after starts commits _ _ e is (g.after p in_pairs)
 
 pub all_rise : (h : History) (edges : List Edge) (starts commits : ℕ → ℕ) → IsGraph h edges → Rises h starts commits
     → All (λ (e : Edge). number starts commits e.from < number starts commits e.to) edges

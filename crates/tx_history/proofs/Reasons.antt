@@ -14,7 +14,7 @@ use Rattle.tx_history.specs.declared.dependency.Kind.TheVariants.{Wr, Rw}
 use Rattle.tx_history.specs.declared.dependency.Dependency.{Dependency}
 use Rattle.tx_history.specs.Records.{writers_of, history_of}
 use Rattle.tx_history.specs.Graph.{IsEdge, IsWw, IsWr, IsRw, IsAfter, IsCycleOf, before_edge, after_edge}
-use Rattle.tx_history.specs.Adding.{IsSeenEdge, IsNextEdge, read_at, pair_at}
+use Rattle.tx_history.specs.Additions.{IsSeenEdge, IsNextEdge, read_at, pair_at}
 use Rattle.tx_history.specs.Dependencies.{IsDependency, IsWwIn, IsNoWwIn, IsSeen, IsNext, next_of}
 use Rattle.tx_history.proofs.Graphs.{versions_from, wr_of, rw_of, pairs_from}
 
@@ -35,7 +35,8 @@ never_both a b t u e =
     let from : 2 * a ≡ 2 * t + 1 = ap (λ (x : Edge). x.from) e in
     absurd (omega (arith, from))
 
-pub ww_some : (r : Recorded) (k from to : ℕ) (ws : List ℕ) (d : Dependency) → ws ≡ writers_of r k → IsWwIn ws k from to d
+pub ww_some : (r : Recorded) (k from to : ℕ) (ws : List ℕ) (d : Dependency) → ws ≡ writers_of r k
+    → IsWwIn ws k from to d
     → IsDependency (history_of r) d (after_edge from to)
 ww_some r k from to ws d same (i, lt, one, other, is) =
     let h = history_of r in
@@ -63,7 +64,8 @@ ww_none r from to none is =
     none k lt i more (sym one) (sym other)
 
 -- a read of the history, by its parts
-has_read : (r : Recorded) (i : ℕ) (s : Read) (t : ℕ) → i < length r.reads.items → s ≡ get_or r.reads.items i s → s.txn ≡ t
+has_read : (r : Recorded) (i : ℕ) (s : Read) (t : ℕ) → i < length r.reads.items → s ≡ get_or r.reads.items i s
+    → s.txn ≡ t
     → Contains r.reads.items record { txn = t; key = s.key; version = s.version }
 has_read r i s t lt is same =
     let P : ℕ → Type 0 = λ q. Contains r.reads.items record { txn = q; key = s.key; version = s.version } in
@@ -71,7 +73,8 @@ has_read r i s t lt is same =
 
 pub wr_some : (r : Recorded) (i from to : ℕ) (s : Read) (ws : List ℕ) → i < length r.reads.items
     → s ≡ get_or r.reads.items i s → ws ≡ writers_of r s.key → IsSeen ws s from to
-    → IsDependency (history_of r) record { kind = Wr; from = from; to = to; key = s.key; version = s.version } (after_edge from to)
+    → IsDependency (history_of r) record { kind = Wr; from = from; to = to; key = s.key; version = s.version }
+    (after_edge from to)
 wr_some r i from to s ws lt is same (reader, low, high, writer) =
     let n = ap length same in (
       (
@@ -84,7 +87,8 @@ wr_some r i from to s ws lt is same (reader, low, high, writer) =
 
 pub rw_some : (r : Recorded) (i from to : ℕ) (s : Read) (ws : List ℕ) → i < length r.reads.items
     → s ≡ get_or r.reads.items i s → ws ≡ writers_of r s.key → IsNext ws s from to
-    → IsDependency (history_of r) record { kind = Rw; from = from; to = to; key = s.key; version = s.version } (before_edge from to)
+    → IsDependency (history_of r) record { kind = Rw; from = from; to = to; key = s.key; version = s.version }
+    (before_edge from to)
 rw_some r i from to s ws lt is same (reader, high, writer) =
     let n = ap length same in
     let back : s.version + 1 - 1 ≡ s.version = omega arith in (
@@ -138,7 +142,8 @@ pair_none r from to none is =
     none i lt (sym one) (sym other)
 
 -- no edge to a commit, where a transaction's own is none and no read gives one
-pub none_before : (r : Recorded) (from to : ℕ) → (from ≡ to → from < r.txns → ⊥) → (IsRw (history_of r) (before_edge from to) → ⊥)
+pub none_before : (r : Recorded) (from to : ℕ) → (from ≡ to → from < r.txns → ⊥)
+    → (IsRw (history_of r) (before_edge from to) → ⊥)
     → IsEdge (history_of r) (before_edge from to) → ⊥
 none_before r from to own rw (inl (t, lt, is)) =
     let (one, other) = before_same from to t t is in
@@ -185,7 +190,8 @@ inner edges a (x ∷ xs) b (suc i) walk lt =
 
 final : (edges : List Edge) (a : ℕ) (xs : List ℕ) (b i : ℕ) → IsWalk edges a xs b → i ≡ length xs
     → Contains edges record { from = slice_index (a ∷ xs) i; to = b }
-final edges a [] b i walk end = subst (λ n. Contains edges record { from = slice_index (a ∷ []) n; to = b }) (sym end) walk
+final edges a [] b i walk end =
+    subst (λ n. Contains edges record { from = slice_index (a ∷ []) n; to = b }) (sym end) walk
 final edges a (x ∷ xs) b i walk end =
     let e : i ≡ length xs + 1 = omega (arith, end) in
     let here = final edges x xs b (length xs) walk.1 refl in
@@ -202,7 +208,8 @@ in_cycle : (edges : List Edge) (nodes : List ℕ) (i : ℕ) → IsCycle edges no
 in_cycle edges [] i cycle lt = absurd (omega (arith, lt))
 in_cycle edges (a ∷ xs) i cycle lt = elim (cases_lt (i + 1) (length (a ∷ xs))) [
   | inl less ↦ same_edge edges _ _ _ _ refl (next_inner (a ∷ xs) i less) (inner edges a xs a i cycle less)
-  | inr past ↦ same_edge edges _ _ _ _ refl (next_final (a ∷ xs) i past) (final edges a xs a i cycle (omega (arith, lt, past)))
+  | inr past ↦ same_edge edges _ _ _ _ refl (next_final (a ∷ xs) i past)
+      (final edges a xs a i cycle (omega (arith, lt, past)))
 ]
 
 -- each step round a cycle is an edge
@@ -217,7 +224,8 @@ found_below : (old : List Dependency) (x : Dependency) (j : ℕ) (d : Dependency
     → get_or (old ++ x ∷ []) j d ≡ get_or old j d
 found_below old x j d lt = grind (arith, common_steps)
 
-found_at : (old : List Dependency) (x : Dependency) (j : ℕ) (d : Dependency) → j ≡ length old → get_or (old ++ x ∷ []) j d ≡ x
+found_at : (old : List Dependency) (x : Dependency) (j : ℕ) (d : Dependency) → j ≡ length old
+    → get_or (old ++ x ∷ []) j d ≡ x
 found_at old x j d is = grind (arith, common_steps)
 
 last_found : (old : List Dependency) (x : Dependency) (j : ℕ) (d : Dependency) → slice_get (old ++ x ∷ []) j ≡ Some d
@@ -228,15 +236,18 @@ last_found old x j d at =
     let n = one_longer old x in
     elim (cases_lt j (length old)) [
       | inl below ↦ inl (slice_get-get_or old j d below ∙ ap Some (sym (found_below old x j d below) ∙ is))
-      | inr past ↦ (let same : j ≡ length old = omega (arith, past, lt, n) in inr (same, sym is ∙ found_at old x j d same))
+      | inr past ↦ (let same : j ≡ length old =
+          omega (arith, past, lt, n) in inr (same, sym is ∙ found_at old x j d same))
     ]
 
 -- what holds of those found so far, and of one more
-pub found_more : (P : ℕ → Dependency → Type 0) (old new : List Dependency) (x : Dependency) (i : ℕ) → new ≡ old ++ x ∷ []
+pub found_more : (P : ℕ → Dependency → Type 0) (old new : List Dependency) (x : Dependency) (i : ℕ)
+    → new ≡ old ++ x ∷ []
     → length old ≡ i → ((j : ℕ) (d : Dependency) → slice_get old j ≡ Some d → P j d) → P i x
     → (j : ℕ) (d : Dependency) → slice_get new j ≡ Some d → P j d
-found_more P old new x i is n before here j d at = elim (last_found old x j d (subst (λ xs. slice_get xs j ≡ Some d) is at)) [
-  | inl earlier ↦ before j d earlier
-  | inr last ↦ (let same : i ≡ j = sym n ∙ sym last.0 in
-      subst (P j) (sym last.1) (subst (λ q. P q x) same here))
-]
+found_more P old new x i is n before here j d at =
+    elim (last_found old x j d (subst (λ xs. slice_get xs j ≡ Some d) is at)) [
+      | inl earlier ↦ before j d earlier
+      | inr last ↦ (let same : i ≡ j = sym n ∙ sym last.0 in
+          subst (P j) (sym last.1) (subst (λ q. P q x) same here))
+    ]

@@ -18,14 +18,18 @@ module _ (h : History) (edges : List Edge) (txns : ℕ) (places starts commits :
     (at_commit : (t : ℕ) → t < txns → slice_index commits t ≡ slice_index places (commit_node t)) where
   rises_before : (t u : ℕ) → Contains edges (before_edge t u) → slice_index starts t < slice_index commits u
   rises_before t u is =
-      let (from, to) = all_at (λ edge. (edge.from < 2 * txns) × (edge.to < 2 * txns)) edges (before_edge t u) within is in
-      let lt = all_at (λ edge. slice_index places edge.from < slice_index places edge.to) edges (before_edge t u) order.rises is in
+      let (from, to) = all_at (λ edge. (edge.from < 2 * txns) × (edge.to < 2 * txns)) edges
+      (before_edge t u) within is in
+      let lt = all_at (λ edge. slice_index places edge.from < slice_index places edge.to) edges
+      (before_edge t u) order.rises is in
       less _ _ _ _ (at_start t (omega (arith, from))) (at_commit u (omega (arith, to))) lt
 
   rises_after : (u t : ℕ) → Contains edges (after_edge u t) → slice_index commits u < slice_index starts t
   rises_after u t is =
-      let (from, to) = all_at (λ edge. (edge.from < 2 * txns) × (edge.to < 2 * txns)) edges (after_edge u t) within is in
-      let lt = all_at (λ edge. slice_index places edge.from < slice_index places edge.to) edges (after_edge u t) order.rises is in
+      let (from, to) = all_at (λ edge. (edge.from < 2 * txns) × (edge.to < 2 * txns)) edges
+      (after_edge u t) within is in
+      let lt = all_at (λ edge. slice_index places edge.from < slice_index places edge.to) edges
+      (after_edge u t) order.rises is in
       less _ _ _ _ (at_commit u (omega (arith, from))) (at_start t (omega (arith, to))) lt
 
   rising : Rises h (slice_index starts) (slice_index commits)

@@ -11,7 +11,8 @@ use Rattle.tx_history.specs.Records.{IsRecorded, history_of}
 use Rattle.tx_history.specs.Graph.{IsGraph, IsEdge, before_edge, after_edge}
 use Rattle.tx_history.proofs.Graphs.{read_of, pair_of}
 
-pub writer_within : (r : Recorded) (k i : ℕ) → IsRecorded r → HasVersion (history_of r) k i → (history_of r).writer k i < r.txns
+pub writer_within : (r : Recorded) (k i : ℕ) → IsRecorded r → HasVersion (history_of r) k i
+    → (history_of r).writer k i < r.txns
 writer_within r k i good has =
     let from = slice_index r.heads.items k in
     let some = All-drop (λ w. w < r.txns) from r.writers.items good.writers in
@@ -56,6 +57,7 @@ edge_within r e good (inr (inr (inr (inl (x, in_reads, has, is))))) =
 edge_within r e good (inr (inr (inr (inr (x, in_pairs, is))))) =
     let (one, other) = pair_within r x good in_pairs in after_within r.txns _ _ e is other one
 
-pub graph_within : (r : Recorded) (edges : List Edge) → IsRecorded r → IsGraph (history_of r) edges → AreWithin (2 * r.txns) edges
+pub graph_within : (r : Recorded) (edges : List Edge) → IsRecorded r → IsGraph (history_of r) edges
+    → AreWithin (2 * r.txns) edges
 graph_within r edges good graph i d lt =
     edge_within r (get_or edges i d) good ((graph (get_or edges i d)).0 (Contains-get_or edges i d lt))

@@ -1,11 +1,12 @@
--- Histories whose versions have an order, and what makes one snapshot isolation. Transactions and keys
--- are numbers. The versions of a key are counted from 1; 0 is the key before its first version.
+-- Histories whose versions have an order, and what makes one snapshot isolation. Transactions and
+-- keys are numbers. The versions of a key are counted from 1; 0 is the key before its first
+-- version.
 use Rattle.std.specs.Prelude.{ℕ, ◌+◌, ◌<◌, ◌≤◌, List, Contains}
 use Rattle.tx_history.specs.declared.recorded.Read.{Read}
 use Rattle.tx_history.specs.declared.recorded.After.{After}
 
--- How many transactions there are, how many versions each key has, who wrote each, what was read, and
--- which transaction is known to have begun after another had ended.
+-- How many transactions there are, how many versions each key has, who wrote each, what was read,
+-- and which transaction is known to have begun after another had ended.
 pub record History : Type 0 where
   pub txns : ℕ
   pub count : ℕ → ℕ
@@ -21,10 +22,10 @@ HasVersion h k i = (1 ≤ i) × (i ≤ h.count k)
 abbrev pub AreWritten : History → Type 0
 AreWritten h = (k i : ℕ) → HasVersion h k i → h.writer k i < h.txns
 
--- Timestamps under which the history is snapshot isolation: each transaction commits above its start;
--- of two that write one key the earlier version is committed at or below the start of the other; what
--- is read is the newest version committed at or below the reader's start; and what is known to come
--- after does.
+-- Timestamps under which the history is snapshot isolation: each transaction commits above its
+-- start; of two that write one key the earlier version is committed at or below the start of the
+-- other; what is read is the newest version committed at or below the reader's start; and what is
+-- known to come after does.
 pub record IsAssignment (h : History) (start commit : ℕ → ℕ) : Type 0 where
   pub above : (t : ℕ) → t < h.txns → start t < commit t
   pub apart : (k i j : ℕ) → HasVersion h k i → HasVersion h k j → i < j → commit (h.writer k i) ≤ start (h.writer k j)

@@ -1,6 +1,6 @@
 pub mod Histories
 pub mod Records
 pub mod Graph
-pub mod Adding
+pub mod Additions
 pub mod Decisions
 pub mod Dependencies

@@ -39,8 +39,8 @@ fn every_other(
     Ok(taken)
 }
 
-/// Timestamps under which the history is snapshot isolation, or, where there are none, a cycle of its
-/// graph, of as few nodes as `shorten` finds.
+/// Timestamps under which the history is snapshot isolation, or, where there are none, a cycle of
+/// its graph, of as few nodes as `shorten` finds.
 ///
 /// `AllocError` where there was no room to find out.
 pub fn decide(alloc: Global, recorded: &Recorded) -> Result<Decision, AllocError>

@@ -33,7 +33,8 @@ pub struct Dependency {
     pub to: u32,
     /// The key, 0 for `Own` and `After`.
     pub key: usize,
-    /// The version that the first wrote or read. For `After` it is the place of the pair, for `Own` 0.
+    /// The version that the first wrote or read. For `After` it is the place of the pair, and 0
+    /// for `Own`.
     pub version: usize,
 }
 

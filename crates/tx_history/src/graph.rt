@@ -3,7 +3,7 @@ ghost use Rattle.std.specs.Prelude.{◌≡◌, ◌⊎◌, ℕ, ◌+◌, ◌-◌,
 ghost use Rattle.tx_order.specs.declared.graph.Edge.{Edge};
 ghost use Rattle.tx_history.specs.Graph.{IsGraph};
 ghost use Rattle.tx_history.specs.Records.{IsRecorded, history_of, writers_of};
-ghost use Rattle.tx_history.specs.Adding.{Adds, Each, AreFew, IsFew, IsVersionEdge, IsSeenEdge, IsNextEdge, IsReadEdge, IsOwnOf, IsVersionOf, IsReadOf, IsAfterOf, before_edge, after_edge};
+ghost use Rattle.tx_history.specs.Additions.{Adds, Each, AreFew, IsFew, IsVersionEdge, IsSeenEdge, IsNextEdge, IsReadEdge, IsOwnOf, IsVersionOf, IsReadOf, IsAfterOf, before_edge, after_edge};
 
 use crate::recorded::{Read, Recorded};
 use std::alloc::{AllocError, Global};
@@ -70,7 +70,8 @@ fn add_version(edges: &mut Vec<Edge>, writers: &[u32], i: usize) -> Result<(), A
 // Adds the edges of all versions of a key.
 fn add_versions(edges: &mut Vec<Edge>, writers: &[u32]) -> Result<(), AllocError>
     requires { AreFew writers.now }
-    ensures added { OnOk result (Adds edges.old.items edges.new.items (Each (length writers.now) (IsVersionEdge writers.now))) }
+    ensures added { OnOk result
+        (Adds edges.old.items edges.new.items (Each (length writers.now) (IsVersionEdge writers.now))) }
     ensures few { OnOk result (length edges.new.items ≤ length edges.old.items + length writers.now) }
 {
     for i in 0..writers.len() {

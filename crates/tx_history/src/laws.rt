@@ -9,10 +9,12 @@ use tx_order::cycles_refuse_orders;
 
 /// Numbers that rise along each edge of the graph are timestamps.
 pub fn orders_are_assignments()
-    ensures { (h : History) (starts commits : ℕ → ℕ) → AreWritten h → Rises h starts commits → IsAssignment h starts commits }
+    ensures { (h : History) (starts commits : ℕ → ℕ) → AreWritten h → Rises h starts commits
+        → IsAssignment h starts commits }
 {}
 
-/// Timestamps give numbers that rise along each edge: so where the graph has a cycle there are none.
+/// Timestamps give numbers that rise along each edge: so where the graph has a cycle there are
+/// none.
 pub fn assignments_are_orders()
     ensures { (h : History) (start commit : ℕ → ℕ) → IsAssignment h start commit
         → Rises h (λ t. 2 * start t + 1) (λ t. 2 * commit t) }

@@ -1,7 +1,7 @@
-//! Histories of any store whose versions are known, without timestamps: whether there are timestamps
-//! under which one is snapshot isolation. Its graph has a start and a commit of each transaction, and
-//! an edge wherever each such timestamps rise: it has an order, which gives timestamps, or a cycle,
-//! which refuses all.
+//! Histories of any store whose versions are known, without timestamps: whether there are
+//! timestamps under which one is snapshot isolation. Its graph has a start and a commit of each
+//! transaction, and an edge wherever each such timestamps rise: it has an order, which gives
+//! timestamps, or a cycle, which refuses all.
 #![tactic(auto)]
 
 mod decision;

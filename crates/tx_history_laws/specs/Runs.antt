@@ -15,12 +15,13 @@ abbrev pub value_at : (ℕ → ℕ → Value) → ℕ → ℕ → Option Value
 value_at value k zero = None
 value_at value k (suc i) = Some (value k (suc i))
 
--- The committed rows are those of the history under these timestamps: each version is a put of its own
--- value, nothing else is put or deleted on its keys, what was read is seen at the reader's start, and
--- whoever wrote a version had the one before it there (as an append has, or a read before a write).
--- Each transaction ends above its start, one that wrote nothing at any moment there; and what is known
--- to come after starts there or above.
-pub record IsOf (h : History) (rows : Rows) (key : ℕ → Key) (value : ℕ → ℕ → Value) (start commit : ℕ → ℕ) : Type 0 where
+-- The committed rows are those of the history under these timestamps: each version is a put of its
+-- own value, nothing else is put or deleted on its keys, what was read is seen at the reader's
+-- start, and whoever wrote a version had the one before it there (as an append has, or a read
+-- before a write). Each transaction ends above its start, one that wrote nothing at any moment
+-- there; and what is known to come after starts there or above.
+pub record IsOf (h : History) (rows : Rows) (key : ℕ → Key) (value : ℕ → ℕ → Value)
+    (start commit : ℕ → ℕ) : Type 0 where
   pub commits : (k i : ℕ) → HasVersion h k i
       → Commits rows (key k) (start (h.writer k i)) (commit (h.writer k i)) (Put (value k i))
   pub only : (k u c : ℕ) (m : Mutation) → Commits rows (key k) u c m → IsVisible m

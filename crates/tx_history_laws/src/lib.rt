@@ -1,5 +1,5 @@
-//! A history that is of a run of the one-step machine has timestamps: so where its graph has a cycle
-//! there is no such run.
+//! A history that is of a run of the one-step machine has timestamps: so where its graph has a
+//! cycle there is no such run.
 #![tactic(auto)]
 
 ghost use Rattle.std.specs.Prelude.{ℕ, List};
@@ -32,8 +32,8 @@ pub fn cycles_refuse_runs()
     assignments_are_orders();
 }
 
-/// A history that has no timestamps is that of no run of the machine: so a decision that it has none
-/// is one about all runs.
+/// A history that has no timestamps is that of no run of the machine: so a decision that it has
+/// none is one about all runs.
 pub fn refused_histories_have_no_run()
     ensures { (h : History) (steps : List Step) (key : ℕ → Key) (value : ℕ → ℕ → Value) (start commit : ℕ → ℕ)
         → ((s c : ℕ → ℕ) → IsAssignment h s c → ⊥)

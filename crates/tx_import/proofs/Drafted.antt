@@ -31,7 +31,8 @@ act_stays v w e f (act.Read span) more longer h = omega (arith, longer, h)
 pub ops_stay : (k l v w e f : ℕ) (os : List Op) → k ≤ l → v ≤ w → e ≤ f → All (IsOpIn k v e) os
     → All (IsOpIn l w f) os
 ops_stay k l v w e f os keys values longer h =
-    All-weaker (IsOpIn k v e) (IsOpIn l w f) (λ o is. (omega (arith, keys, is.0), act_stays v w e f o.act values longer is.1)) os h
+    All-weaker (IsOpIn k v e) (IsOpIn l w f)
+    (λ o is. (omega (arith, keys, is.0), act_stays v w e f o.act values longer is.1)) os h
 
 -- what was said is there
 act_there : (values : List KeyedValue) (xs : List ℕ) (key : ℕ) (a : Act) (s : SaidAct) → IsActSaid values xs key a s
@@ -48,7 +49,8 @@ act_there values xs key (act.Read span) (said.Write name) h = absurd h
 
 pub op_there : (tables : Tables) (xs : List ℕ) (o : Op) (s : SaidOp) → IsOpSaid tables xs o s
     → IsOpIn (length tables.keys) (length tables.values) (length xs) o
-op_there tables xs o s h = (slice_get_within tables.keys o.key s.key h.0, act_there tables.values xs o.key o.act s.act h.1)
+op_there tables xs o s h =
+    (slice_get_within tables.keys o.key s.key h.0, act_there tables.values xs o.key o.act s.act h.1)
 
 -- ---- the recording
 
@@ -104,6 +106,7 @@ ranges_stay old new s grows (t, is, one) all =
     let longer = length_grows old.ops.items new.ops.items grows.ops in
     let P = IsTransactionOf (length new.ops.items) in
     let before : All P old.transactions.items =
-    All-weaker (IsTransactionOf (length old.ops.items)) P (λ t h. (h.0, omega (arith, longer, h.1))) old.transactions.items all in
+    All-weaker (IsTransactionOf (length old.ops.items)) P (λ t h. (h.0, omega (arith, longer, h.1)))
+    old.transactions.items all in
     let Q : List Transaction → Type 0 = λ ts. All P ts in
     subst Q (sym is) (All-push P old.transactions.items t before one.range)

@@ -158,11 +158,13 @@ transaction_grows old new t s g h =
     record {
       id = h.id;
       outcome = h.outcome;
-      process = process_grows old.tables.processes new.tables.processes t.process s.process g.tables.processes h.process;
+      process = process_grows old.tables.processes new.tables.processes t.process s.process g.tables.processes
+          h.process;
       began = h.began;
       ended = h.ended;
       range = (h.range.0, omega (arith, longer, h.range.1));
-      ops_said = subst P (sym same) (ops_grow old.tables new.tables old.elements.items new.elements.items _ s.ops g.tables g.elements h.ops_said);
+      ops_said = subst P (sym same)
+          (ops_grow old.tables new.tables old.elements.items new.elements.items _ s.ops g.tables g.elements h.ops_said);
     }
 
 -- ---- one more
@@ -185,7 +187,8 @@ pub values_more : (mid new : List KeyedValue) (key : ℕ) (start xs ys : List �
     → ys ≡ xs ++ n ∷ [] → ((ns : List ℕ) × (xs ≡ start ++ ns) × AreValuesOf mid key ns (take i names))
     → ((ns : List ℕ) × (ys ≡ start ++ ns) × AreValuesOf new key ns (take (i + 1) names))
 values_more mid new key start xs ys names i n name within is g one more (ns, e, vals) =
-    let all = zip_push (IsValueOf new key) ns (take i names) n name (values_grow mid new key ns (take i names) g vals) one in
+    let all = zip_push (IsValueOf new key) ns (take i names) n name (values_grow mid new key ns (take i names) g vals)
+    one in
     let P : List Name → Type 0 = λ l. AreValuesOf new key (ns ++ n ∷ []) l in (
       ns ++ n ∷ [],
       more ∙ ap (λ l. l ++ n ∷ []) e ∙ append_assoc start ns (n ∷ []),
@@ -215,7 +218,8 @@ pub ops_more : (start mid new : Draft) (saids : List SaidOp) (i : ℕ) (s : Said
     → s ≡ get_or saids i s → GrowsDraft mid new → AddsOps start mid (take i saids) → AddsOps mid new (s ∷ [])
     → AddsOps start new (take (i + 1) saids)
 ops_more start mid new saids i s within is g (os, e, before) (ps, f, one) =
-    let old = ops_grow mid.tables new.tables mid.elements.items new.elements.items os (take i saids) g.tables g.elements before in
+    let old = ops_grow mid.tables new.tables mid.elements.items new.elements.items os (take i saids) g.tables g.elements
+    before in
     let all = zip_append (IsOpSaid new.tables new.elements.items) os ps (take i saids) (s ∷ []) old one in
     let P : List SaidOp → Type 0 = λ l. AreOpsSaid new.tables new.elements.items (os ++ ps) l in (
       os ++ ps,

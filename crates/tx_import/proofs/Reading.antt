@@ -102,7 +102,8 @@ module _ {input : List ℕ} {left : Option (List ℕ)} {d : Draft} {number : ℕ
   fault_of line cause (inl none) = inl none
   fault_of line cause (inr (t, is, much, lines)) = inr (t, is, omega (arith, much, soon.held_is), lines)
 
-  pub faulted : (cause : Cause) → IfSome left (λ bytes. HistoryTurns bytes left' d next (number + 1) (turn.Faulted cause))
+  pub faulted : (cause : Cause)
+      → IfSome left (λ bytes. HistoryTurns bytes left' d next (number + 1) (turn.Faulted cause))
       → IsFaultOf (lines_of input) (record { number = number + 1; cause = cause })
   faulted cause turns =
       let found = at_rest (turn.Faulted cause) turns in

@@ -28,7 +28,8 @@ fn yes_of(
     requires recording { IsRecording recording.now }
     requires views { AreViews recording.now views.now }
     requires history { IsRecorded versions.recorded }
-    requires assigned { IsAssignment (history_of versions.recorded) (slice_index starts.items) (slice_index commits.items) }
+    requires assigned { IsAssignment (history_of versions.recorded) (slice_index starts.items)
+        (slice_index commits.items) }
     ensures { IfOk result (λ found. IfSome found (IsVerdict recording.now orders)) }
 {
     match timestamps(alloc, recording, views, orders, versions, starts, commits)? {

@@ -1,3 +1,4 @@
 pub mod Bounds
 pub mod Clients
 pub mod Telling
+pub mod Views

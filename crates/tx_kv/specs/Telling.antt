@@ -4,7 +4,7 @@ use Rattle.tx_core.specs.declared.event.Outcome.{Outcome}
 use Rattle.tx_core.specs.declared.event.Outcome.TheVariants as outcome
 use Rattle.tx_simple.specs.declared.failure.Failure.{Failure}
 use Rattle.tx_simple.specs.declared.failure.Failure.TheVariants as failure
-use Rattle.tx_simple.specs.declared.stopping.Stop.TheVariants.{Conflict}
+use Rattle.tx_simple.specs.declared.stops.Stop.TheVariants.{Conflict}
 use Rattle.tx_kv.specs.declared.updated.Updated.{Updated}
 use Rattle.tx_kv.specs.declared.updated.NotUpdated.{NotUpdated}
 use Rattle.tx_kv.specs.declared.updated.NotUpdated.TheVariants.{Own, Stopped, Unknown}

@@ -2,16 +2,17 @@
 ghost use Rattle.std.specs.Prelude.{◌≡◌};
 ghost use Rattle.tx_kv.specs.Clients.{Updates};
 
+use crate::live::Live;
 use crate::updated::{NotUpdated, Updated, told_of};
 use std::alloc::Global;
 use std::marker::Model;
 use std::sync::Wait;
 use tx_client::Terms;
+use tx_flat::FlatCells;
 use tx_journal::JournalId;
-use tx_nested::NestedCells;
 use tx_simple::{Seats, Work, update};
 use tx_store::{Store, Wire};
-use tx_types::Mode;
+use tx_types::{Mode, Ts};
 
 /// How long the locks of a client live, in ticks, where it does not say.
 const TTL: u32 = 1_000;
@@ -25,8 +26,9 @@ const AGAIN: u32 = 1_000_000;
 pub struct Client<'a, J: JournalId, R: Wait> {
     pub(crate) rt: &'a R,
     pub(crate) alloc: Global,
-    pub(crate) store: &'a Store<J, NestedCells>,
-    number: usize,
+    pub(crate) store: &'a Store<J, FlatCells>,
+    pub(crate) live: &'a Live,
+    pub(crate) number: usize,
     /// They are there between two calls.
     pub(crate) seats: Option<Seats<J>>,
     terms: Terms,
@@ -49,7 +51,8 @@ impl<'a, J: JournalId, R: Wait> Client<'a, J, R> {
     pub(crate) fn new(
         rt: &'a R,
         alloc: Global,
-        store: &'a Store<J, NestedCells>,
+        store: &'a Store<J, FlatCells>,
+        live: &'a Live,
         number: usize,
         seats: Seats<J>,
     ) -> Client<'a, J, R>
@@ -59,6 +62,7 @@ impl<'a, J: JournalId, R: Wait> Client<'a, J, R> {
             rt,
             alloc,
             store,
+            live,
             number,
             seats: Some(seats),
             terms: Terms {
@@ -78,6 +82,16 @@ impl<'a, J: JournalId, R: Wait> Client<'a, J, R> {
     /// Where it takes memory.
     pub fn alloc(&self) -> Global {
         self.alloc
+    }
+
+    /// It reads at this timestamp or above until it leaves.
+    pub(crate) fn enter(&self, at: Ts) {
+        self.live.enter(self.number, at);
+    }
+
+    /// It reads nowhere.
+    pub(crate) fn leave(&self) {
+        self.live.leave(self.number);
     }
 
     /// It is to write under these terms, and to try a transaction again so often.
@@ -112,14 +126,15 @@ impl<'a, J: JournalId, R: Wait> Client<'a, J, R> {
     pub fn update<W: Work>(&mut self, work: &mut W) -> Result<Updated<W::Out>, NotUpdated<W::Err>>
         ensures { Updates W.does J.bounds self.old work.old result self.new work.new }
     {
-        let Some(seats) = self.seats.take() else {
+        let Some(mut seats) = self.seats.take() else {
             unreachable!()
         };
+        self.live.enter(self.number, seats.resolves.last());
         let mut wire = Wire::new(self.rt, self.store);
-        wire.show();
         let came = update(self.alloc, seats, self.terms, self.again, work, &mut wire);
         let (told, seats) = told_of(came);
         self.seats = Some(seats);
+        self.leave();
         told
     }
 }

@@ -2,18 +2,26 @@
 #![tactic(auto)]
 
 mod client;
+mod collection;
+mod found;
+mod live;
 mod opening;
 mod program;
+mod ranges;
+mod reads;
 mod unopened;
 mod updated;
 mod view;
 
 pub use client::Client;
+pub use collection::Collected;
 pub use program::{Program, with_store};
 pub use tx_client::{Terms, WaitCause};
 pub use tx_core::Outcome;
 pub use tx_journal::JournalId;
+pub use tx_resolve::Counts;
 pub use tx_simple::{Failure, Stop, Tx, Work};
 pub use tx_types::{Fault, Key, KeyValue, KeyValues, Mode, Ts, Value};
 pub use unopened::Unopened;
 pub use updated::{NotUpdated, Updated};
+pub use view::View;

@@ -1,17 +1,18 @@
 //! A program over a store of its own.
 ghost use Rattle.std.specs.Prelude.{◌≡◌, ◌+◌, All, length, vec_len};
 ghost use Rattle.tx_cells.specs.Contents.{nothing_held};
-ghost use Rattle.tx_nested.specs.Nested.{nested_content};
+ghost use Rattle.tx_flat.specs.Flats.{flat_content};
 
 use crate::client::Client;
+use crate::live::Live;
 use crate::opening::{journal, store};
 use crate::unopened::Unopened;
 use std::alloc::Global;
 use std::marker::Brand;
 use std::sync::Wait;
 use std::thread::{Threads, map_vec};
+use tx_flat::FlatCells;
 use tx_journal::{JournalId, Opened};
-use tx_nested::NestedCells;
 use tx_simple::Seats;
 use tx_store::Store;
 use tx_types::Fault;
@@ -72,12 +73,13 @@ fn jobs<J: JournalId>(alloc: Global, pairs: Vec<Seats<J>>) -> Result<Vec<Job<J>>
 fn run_one<J: JournalId, R: Wait, P: Program<R>>(
     rt: &R,
     alloc: Global,
-    store: &Store<J, NestedCells>,
+    store: &Store<J, FlatCells>,
+    live: &Live,
     program: &P,
     job: Job<J>,
 ) -> P::Out {
     let Job { number, seats } = job;
-    let mut client = Client::new(rt, alloc, store, number, seats);
+    let mut client = Client::new(rt, alloc, store, live, number, seats);
     program.run(&mut client)
 }
 
@@ -85,11 +87,16 @@ fn run_one<J: JournalId, R: Wait, P: Program<R>>(
 fn run_each<J: JournalId + Send + Sync, R: Threads + Wait + Sync, P: Program<R>>(
     rt: &R,
     alloc: Global,
-    store: &Store<J, NestedCells>,
+    store: &Store<J, FlatCells>,
+    live: &Live,
     program: &P,
     jobs: Vec<Job<J>>,
 ) -> Result<Vec<P::Out>, Fault> {
-    Ok(map_vec(rt, jobs, &|job| run_one(rt, alloc, store, program, job))?)
+    Ok(map_vec(
+        rt,
+        jobs,
+        &|job| run_one(rt, alloc, store, live, program, job),
+    )?)
 }
 
 // Runs a program over a journal that was opened.
@@ -97,21 +104,22 @@ fn run_over<J: JournalId + Send + Sync, R: Threads + Wait + Sync, P: Program<R>>
     rt: &R,
     alloc: Global,
     opened: Opened,
-    families: Vec<NestedCells>,
+    families: Vec<FlatCells>,
     mut program: P,
 ) -> Result<P::Answer, Unopened>
     requires name { (opened.table ≡ J.table) × (opened.bounds ≡ J.bounds) × (opened.seats ≡ J.seats) }
     requires count { vec_len families ≡ length J.bounds + 1 }
-    requires empty { All (λ f. nested_content f ≡ (λ k. nothing_held)) families.items }
+    requires empty { All (λ f. flat_content f ≡ (λ k. nothing_held)) families.items }
 {
     let (store, mut pairs) = store::<J>(alloc, opened, families)?;
     let Some(first) = pairs.pop() else {
         return Err(Unopened::TooMany);
     };
     let jobs = jobs(alloc, pairs)?;
-    let mut client = Client::new(rt, alloc, &store, jobs.len(), first);
+    let live = Live::new(alloc, jobs.len().saturating_add(1))?;
+    let mut client = Client::new(rt, alloc, &store, &live, jobs.len(), first);
     program.begin(&mut client);
-    let outs = run_each(rt, alloc, &store, &program, jobs)?;
+    let outs = run_each(rt, alloc, &store, &live, &program, jobs)?;
     let answer = program.end(&mut client, outs);
     drop(client);
     Ok(answer)

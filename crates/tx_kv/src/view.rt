@@ -1,78 +1,112 @@
-//! Reads of a client alone, at a timestamp.
-ghost use Rattle.std.specs.Prelude.{◌≡◌, ℕ, IfOk};
-ghost use Rattle.tx_types.specs.declared.key.Key.{Key};
+//! Reads of a client alone, at one timestamp.
+ghost use Rattle.std.specs.Prelude.{◌≡◌, IfOk};
 ghost use Rattle.tx_machine.specs.Machine.{Sees, table_of};
-ghost use Rattle.tx_core.specs.Histories.{History};
 ghost use Rattle.tx_core.specs.Shadow.{shadow};
 ghost use Rattle.tx_journal.specs.Known.{HasDrawn};
-ghost use Rattle.tx_reader.specs.Readers.{OnlySees, ReadsAt};
+ghost use Rattle.tx_reader.specs.Readers.{OnlySees};
+ghost use Rattle.tx_kv.specs.Views.{SeesRange};
 
 use crate::client::Client;
+use std::alloc::Global;
 use std::sync::Wait;
-use tx_client::{Miss, WaitCause};
-use tx_core::Answer;
 use tx_journal::JournalId;
-use tx_reader::Reader;
-use tx_simple::{Seats, Stop};
-use tx_store::Wire;
-use tx_types::{Fault, Key, Ts, Value};
+use tx_simple::{KeyRange, Stop};
+use tx_types::{Fault, Key, KeyValues, Ts, Value};
 
-// What a read found.
-fn found_in(answered: Result<Answer, Miss>) -> Result<Option<Value>, Stop>
-    ensures { IfOk result (λ found. (h : History) (at : ℕ) (key : Key) → IfOk answered (ReadsAt h at key)
-        → Sees (table_of (shadow h)).row key at found) }
-{
-    match answered? {
-        Answer::Found(value) => Ok(Some(value)),
-        Answer::Nothing => Ok(None),
-        Answer::KeyIsLocked(_) => Err(Stop::Waits(WaitCause::Live)),
-        Answer::BelowSafePoint { .. } => Err(Stop::BelowSafePoint),
-        Answer::FutureTimestamp { last } => Err(Stop::Refused(Fault::FutureTimestamp { last })),
-        _ => Err(Stop::Conflict),
+/// Reads of a client alone, at one timestamp: a view of the store as it was there. It is no
+/// transaction: nothing is written, and nothing is to be ended. As long as it is there, its client
+/// can do nothing else, and no collection drops what it may read.
+///
+/// ```
+/// let mut view = client.view()?;
+/// let part = count(&view.range(Some(from.clone()?), Some(to.clone()?))?);
+/// ```
+pub struct View<'v, 'a, J: JournalId, R: Wait> {
+    client: &'v mut Client<'a, J, R>,
+    at: Ts,
+}
+
+impl<J: JournalId, R: Wait> Drop for View<'_, '_, J, R> {
+    fn drop(self) {
+        let View { client, at: _ } = self;
+        client.leave();
     }
 }
 
 impl<'a, J: JournalId, R: Wait> Client<'a, J, R> {
-    /// A timestamp that is drawn for reads: what was committed before is seen there, and what is
-    /// read there stays.
-    pub fn timestamp(&mut self) -> Result<Ts, Fault>
-        ensures drawn { IfOk result (λ at. HasDrawn J.bounds self.old.seats.resolves.seat
-            self.old.seats.resolves.events 1 at self.new.seats.resolves.events) }
-        ensures begins { self.new.seats.begins ≡ self.old.seats.begins }
+    /// A view of the store as it is now: at a timestamp that is drawn for it. `OracleSpent` where
+    /// the client has drawn 2^32 ticks.
+    ///
+    /// ```
+    /// let now = count(&client.view()?.range(None, None)?);
+    /// ```
+    pub fn view(&mut self) -> Result<View<'_, 'a, J, R>, Fault>
+        ensures drawn { IfOk result (λ view. HasDrawn J.bounds self.old.seats.resolves.seat
+            self.old.seats.resolves.events 1 view.at view.client.now.seats.resolves.events) }
+        ensures begins { IfOk result (λ view. view.client.now.seats.begins ≡ self.old.seats.begins) }
+        ensures lent { IfOk result (λ view. view.client.ghost_name ≡ self.entry.ghost_name) }
     {
-        let Some(
-            Seats {
-                begins,
-                mut resolves,
-            },
-        ) = self.seats.take()
-        else {
-            unreachable!()
-        };
-        let drawn = resolves.draw(1);
-        self.seats = Some(Seats { begins, resolves });
-        drawn
+        match self.draw_entered() {
+            Ok(at) => Ok(self.view_at(at)),
+            Err(fault) => {
+                self.leave();
+                Err(fault)
+            }
+        }
     }
 
-    /// The value of a key at a timestamp, which need not be fresh: what the one-step machine sees
-    /// there. `BelowSafePoint` where it lies below the safe point, `Waits` where a lock stands in
-    /// the way, and `Refused` where it lies above the last that was drawn. Nothing is written.
-    pub fn get_at(&mut self, at: Ts, key: &Key) -> Result<Option<Value>, Stop>
-        ensures finds { IfOk result
-            (λ found. Sees (table_of (shadow self.new.seats.resolves.events)).row key.now at found) }
-        ensures begins { self.new.seats.begins ≡ self.old.seats.begins }
-        ensures resolves { OnlySees self.old.seats.resolves self.new.seats.resolves }
-        ensures terms { (self.new.terms ≡ self.old.terms) × (self.new.again ≡ self.old.again) }
+    /// A view of the store as it was at a timestamp, which need not be fresh: its reads answer
+    /// `BelowSafePoint` where that lies below the safe point, and `Refused` where it lies above the
+    /// last that was drawn.
+    ///
+    /// ```
+    /// let found = client.view_at(at).get(&key)?;
+    /// ```
+    pub fn view_at(&mut self, at: Ts) -> View<'_, 'a, J, R>
+        ensures at { result.at ≡ at }
+        ensures same { result.client.now ≡ self.old }
+        ensures lent { result.client.ghost_name ≡ self.entry.ghost_name }
     {
-        let Some(Seats { begins, resolves }) = self.seats.take() else {
-            unreachable!()
-        };
-        let mut wire = Wire::new(self.rt, self.store);
-        wire.show();
-        let mut reader = Reader::new(self.alloc, resolves, at);
-        let answered = reader.get(key, &mut wire);
-        let resolves = reader.into_seat();
-        self.seats = Some(Seats { begins, resolves });
-        found_in(answered)
+        self.enter(at);
+        View { client: self, at }
+    }
+}
+
+impl<'v, 'a, J: JournalId, R: Wait> View<'v, 'a, J, R> {
+    /// The timestamp at which it reads.
+    pub fn at(&self) -> Ts
+        ensures { result ≡ self.now.at }
+    {
+        self.at
+    }
+
+    /// Where it takes memory.
+    pub fn alloc(&self) -> Global {
+        self.client.alloc()
+    }
+
+    /// The value of a key: what the one-step machine sees there. A lock in the way is resolved;
+    /// `Waits` where that cannot be, since its transaction lives.
+    pub fn get(&mut self, key: &Key) -> Result<Option<Value>, Stop>
+        ensures finds { IfOk result (λ found. Sees (table_of (shadow self.new.client.now.seats.resolves.events)).row
+            key.now self.old.at found) }
+        ensures begins { self.new.client.now.seats.begins ≡ self.old.client.now.seats.begins }
+        ensures resolves { OnlySees self.old.client.now.seats.resolves self.new.client.now.seats.resolves }
+        ensures same { (self.new.at ≡ self.old.at) × (self.new.client.ghost_name ≡ self.old.client.ghost_name) }
+    {
+        self.client.get_at(self.at, key)
+    }
+
+    /// The rows of a range, of any number: from a key, or from the least, and up to but not
+    /// including another, or to the greatest. It stops as `get` does.
+    pub fn range(&mut self, from: Option<Key>, to: Option<Key>) -> Result<KeyValues, Stop>
+        ensures finds { IfOk result
+            (λ rows. SeesRange self.new.client.now.seats.resolves.events self.old.at from to rows) }
+        ensures begins { self.new.client.now.seats.begins ≡ self.old.client.now.seats.begins }
+        ensures resolves { OnlySees self.old.client.now.seats.resolves self.new.client.now.seats.resolves }
+        ensures same { (self.new.at ≡ self.old.at) × (self.new.client.ghost_name ≡ self.old.client.ghost_name) }
+    {
+        let range = KeyRange::new(self.alloc(), from, to)?;
+        self.client.rows_at(self.at, &range)
     }
 }

@@ -1,4 +1,5 @@
 //! A store that is opened, written, and read as it was before.
+mod collection;
 mod first;
 mod ranges;
 
@@ -38,7 +39,7 @@ fn byte_at<J: JournalId, R: Wait>(
     at: Ts,
 ) -> Result<Option<u8>, Stop> {
     let key = Key::new(client.alloc(), b"a")?;
-    let found = client.get_at(at, &key)?;
+    let found = client.view_at(at).get(&key)?;
     Ok(found.and_then(|value| value.as_bytes().first().copied()))
 }
 

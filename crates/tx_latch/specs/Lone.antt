@@ -2,7 +2,7 @@
 -- stand behind those in the queues. Only this crate's own clauses cite it.
 use Rattle.std.specs.Prelude.{List, [], ◌∷◌, ◌++◌, map}
 use Rattle.tx_latch.specs.Asked.{Command, Distinct, AreFree}
-use Rattle.tx_latch.specs.Queues.{Kept, asked_of}
+use Rattle.tx_latch.specs.Queues.{BetweenCalls, asked_of}
 use Rattle.tx_latch.specs.declared.asked.Lone.{Lone}
 use Rattle.tx_latch.specs.declared.asked.AskedCommands.{AskedCommands}
 
@@ -19,6 +19,6 @@ all_asked a = asked_of a.queues ++ lones a.lone.items
 
 -- what holds between calls
 pub record KeptAll (a : AskedCommands) : Type 0 where
-  pub kept : Kept a.queues
+  pub kept : BetweenCalls a.queues
   pub free : AreFree (asked_of a.queues) (lones a.lone.items)
   pub distinct : Distinct (all_asked a)

@@ -117,8 +117,8 @@ abbrev pub Joinable : Queues → Type 0
 Joinable q = Chained (links q.asked.items) (position_of q) (last_of q) (room_at q.asked.items)
 
 -- and between calls: each number that has a position stands there
-abbrev pub Kept : Queues → Type 0
-Kept q = Joinable q × ((c i : ℕ) → position_of q c ≡ Some i
+abbrev pub BetweenCalls : Queues → Type 0
+BetweenCalls q = Joinable q × ((c i : ℕ) → position_of q c ≡ Some i
     → is_some (slice_index_or (links q.asked.items) i None) ≡ true)
 
 -- the list that was asked

@@ -17,12 +17,15 @@
 //! `remove` cost O(slots of the command), amortised.
 ghost use Rattle.std.specs.Prelude.{◌≡◌, ℕ, ◌+◌, ◌-◌, ◌<◌, ◌≤◌, ◌++◌, ◌∷◌, [], ◌&&◌, true, false, IsTrue, IfOk, IfErr, OnErr, map, cond, length, Option, None, Some, slice_index_or, nat_eq};
 ghost use Rattle.std.specs.Option.{option_map, is_some};
-ghost use Rattle.std.specs.List.{list_any, All, slice_get, filter};
+ghost use Rattle.std.specs.List.{list_any, All, filter};
 ghost use Rattle.tx_latch.specs.Asked.{contains, cids, is_asked, is_granted, newly_granted, without};
-ghost use Rattle.tx_latch.specs.Queues.{Joinable, Kept, HasRoom, links, link_of, room_of, asked_of, position_of, last_of, room_at, at_position, link_at, followed, lowered, adds, joined, count_links, lowered_in, is_number, has_none_before, Placed, after_slot, adds_slot, replaced};
+ghost use Rattle.tx_latch.specs.Queues.{Joinable, BetweenCalls, HasRoom, links, asked_of, position_of, last_of, room_at, at_position, link_at, followed, lowered, adds, joined, count_links, lowered_in, is_number, Placed, after_slot, adds_slot, replaced};
+
+mod positions;
 
 use crate::cid::Cid;
 use crate::slot::Slot;
+use positions::{cid_in, follow, is_cid, is_first, know_small, lower};
 use smallvec::SmallVec;
 use std::alloc::Global;
 use std::collections::HashMap;
@@ -57,7 +60,7 @@ pub struct Queues {
 impl Queues {
     /// No command.
     pub fn new(alloc: Global) -> Queues
-        ensures kept { Kept result }
+        ensures kept { BetweenCalls result }
         ensures empty { asked_of result ≡ [] }
     {
         Queues {
@@ -81,7 +84,7 @@ impl Queues {
 
     /// Whether a command of this number stands in the list.
     pub fn is_asked(&self, cid: Cid) -> bool
-        requires { Kept self.now }
+        requires { BetweenCalls self.now }
         ensures { result ≡ is_asked (asked_of self.now) cid }
     {
         self.positions.contains_key(&cid.get())
@@ -89,7 +92,7 @@ impl Queues {
 
     /// Whether a command of this number is granted.
     pub fn is_granted(&self, cid: Cid) -> bool
-        requires { Kept self.now }
+        requires { BetweenCalls self.now }
         ensures { result ≡ is_granted (asked_of self.now) cid }
     {
         match self.positions.get(&cid.get()).copied() {
@@ -181,9 +184,9 @@ impl Queues {
     /// Adds a command at the end of the list, and says whether it is granted.
     #[inline(always)]
     pub fn add(&mut self, cid: Cid, slots: &[Slot]) -> Result<bool, Fault>
-        requires kept { Kept self.old }
+        requires kept { BetweenCalls self.old }
         requires absent { is_asked (asked_of self.old) cid ≡ false }
-        ensures kept { Kept self.new }
+        ensures kept { BetweenCalls self.new }
         ensures ok { IfOk result (λ now. asked_of self.new ≡ asked_of self.old ++ record {
           cid = cid;
           slots = slots.now;
@@ -255,9 +258,9 @@ impl Queues {
 
     /// Takes a granted command out of the list, and gives those that stood directly behind it.
     fn take_out(&mut self, cid: Cid) -> Vec<Cid>
-        requires kept { Kept self.old }
+        requires kept { BetweenCalls self.old }
         requires granted { is_granted (asked_of self.old) cid ≡ true }
-        ensures kept { Kept self.new }
+        ensures kept { BetweenCalls self.new }
         ensures left { asked_of self.new ≡ without cid (asked_of self.old) }
         ensures freed { filter (is_granted (asked_of self.new)) result.items
             ≡ newly_granted (asked_of self.old) (asked_of self.new) }
@@ -276,9 +279,9 @@ impl Queues {
     /// Takes a granted command out of the list. Gives those that become granted by it,
     /// in asking order.
     pub fn remove(&mut self, cid: Cid) -> Vec<Cid>
-        requires kept { Kept self.old }
+        requires kept { BetweenCalls self.old }
         requires granted { is_granted (asked_of self.old) cid ≡ true }
-        ensures kept { Kept self.new }
+        ensures kept { BetweenCalls self.new }
         ensures left { asked_of self.new ≡ without cid (asked_of self.old) }
         ensures freed { result.items ≡ newly_granted (asked_of self.old) (asked_of self.new) }
     {
@@ -291,8 +294,8 @@ impl Queues {
     /// Drops the empty positions where they are more than the others, or nothing else is there: as
     /// many commands have left since the last time, so that each leaves for a constant cost.
     fn compact_when_sparse(&mut self)
-        requires { Kept self.old }
-        ensures kept { Kept self.new }
+        requires { BetweenCalls self.old }
+        ensures kept { BetweenCalls self.new }
         ensures same { asked_of self.new ≡ asked_of self.old }
     {
         if self.asked.len() / 2 > self.positions.len() || self.positions.is_empty() {
@@ -302,8 +305,8 @@ impl Queues {
 
     /// Drops the empty positions.
     fn compact(&mut self)
-        requires { Kept self.old }
-        ensures kept { Kept self.new }
+        requires { BetweenCalls self.old }
+        ensures kept { BetweenCalls self.new }
         ensures same { asked_of self.new ≡ asked_of self.old }
     {
         self.asked.retain(|position| position.is_some());
@@ -346,84 +349,5 @@ impl Queues {
         if let Some(found) = self.positions.get_mut(&cid.get()) {
             *found = position;
         }
-    }
-}
-
-/// The number of the command at a position.
-fn cid_in(position: &Option<QueueEntry>) -> Option<Cid>
-    ensures { result ≡ option_map (λ l. l.cid) (option_map link_of position.now) }
-{
-    match position {
-        Some(entry) => Some(entry.cid),
-        None => None,
-    }
-}
-
-/// Whether this is the number.
-fn is_cid(found: Option<Cid>, cid: Cid) -> bool
-    ensures { result ≡ is_number cid found }
-{
-    match found {
-        Some(found) => cid.get() == found.get(),
-        None => false,
-    }
-}
-
-/// Whether a command stands at this position with none before it.
-fn is_first(position: &Option<QueueEntry>) -> bool
-    ensures { result ≡ has_none_before (option_map link_of position.now) }
-{
-    match position {
-        Some(entry) => entry.ahead == 0,
-        None => false,
-    }
-}
-
-/// Puts a command directly behind that at this position, unless it was put there just now.
-/// Says whether it did.
-fn follow(position: &mut Option<QueueEntry>, cid: Cid) -> bool
-    requires { HasRoom cid (option_map link_of position.old) (room_of position.old) }
-    ensures followed { option_map link_of position.new ≡ option_map (followed cid) (option_map link_of position.old) }
-    ensures told { result ≡ adds cid (option_map link_of position.old) }
-    ensures room { room_of position.old ≤ room_of position.new }
-{
-    let Some(entry) = position else {
-        return false;
-    };
-    if ends_with(entry.behind.as_slice(), cid) {
-        return false;
-    }
-    let Ok(()) = entry.behind.push(cid) else {
-        unreachable!()
-    };
-    true
-}
-
-/// One stands less before the command at this position.
-fn lower(position: &mut Option<QueueEntry>)
-    ensures lowered { option_map link_of position.new ≡ option_map lowered (option_map link_of position.old) }
-    ensures room { room_of position.old ≤ room_of position.new }
-{
-    if let Some(entry) = position {
-        entry.ahead = entry.ahead.saturating_sub(1);
-    }
-}
-
-/// Whether this is the last of the numbers.
-fn ends_with(cids: &[Cid], cid: Cid) -> bool
-    ensures { result ≡ is_number cid (slice_get cids.now (length cids.now - 1)) }
-{
-    match cids.last() {
-        Some(last) => cid.get() == last.get(),
-        None => false,
-    }
-}
-
-/// For proofs: each number of a slot is below `LATCH_SLOTS`.
-fn know_small(slots: &[Slot])
-    ensures { All (λ s. s < LATCH_SLOTS) slots.now }
-{
-    for slot in slots {
-        let _number = slot.get();
     }
 }

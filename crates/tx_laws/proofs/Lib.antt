@@ -6,5 +6,7 @@ pub mod Standing
 pub mod Told
 -- The rows of the parts of a range, one behind the other, are the rows of the whole range.
 pub mod Joining
+-- The rows of pages of a range, one behind the other, are the rows of the range.
+pub mod Paging
 -- What the walk of a scan comes to, part by part.
 pub mod Scanned

@@ -1,15 +1,15 @@
 //! Requests that are planned outside a region, of a copy, while others are taken.
-mod acting;
-mod failing;
 mod planner;
+mod refusals;
 mod scenarios;
+mod sessions;
 
-use crate::planning_tests::acting::{Step, played};
-use crate::planning_tests::failing::Failing;
+use crate::planning_tests::refusals::Failing;
 use crate::planning_tests::scenarios::{
     LOCKS, ONE_PUT, REFUSED_BESIDE, REFUSED_CHANGE, REFUSED_COPY, REFUSED_INFO, SCENARIOS,
     Scenario, TWO_KEYS, TWO_PUTS,
 };
+use crate::planning_tests::sessions::{Step, played};
 use crate::table_tests::shown::{NOTHING, Short, is};
 use std::alloc::Global;
 use std::marker::Brand;

@@ -1,7 +1,7 @@
 //! Sessions of several threads at one store.
+mod additions;
 mod chase;
-mod collecting;
-mod counting;
+mod collections;
 mod gate;
 mod sessions;
 mod told;

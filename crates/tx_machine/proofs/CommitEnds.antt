@@ -18,7 +18,7 @@ use Rattle.tx_machine.specs.Machine.{Table, MayCommit, after}
 use Rattle.tx_machine.specs.Versions.{Versions, Fates}
 use Rattle.tx_machine.specs.Noted.{Grows}
 use Rattle.tx_machine.specs.Shown.{Index, history_of, versions_of, insert_read_in}
-use Rattle.tx_machine.specs.Representation.{version_in, version_of, puts, Tells, IsFree, InOrder, IsKept, HasVersions, AddsInserts}
+use Rattle.tx_machine.specs.Representation.{version_in, version_of, puts, TellsTable, IsFree, InOrder, IsKept, HasVersions, AddsInserts}
 use Rattle.tx_machine.proofs.Basics.{nat_same, cond_true}
 use Rattle.tx_machine.proofs.Distinct.{distinct_take, contained}
 use Rattle.tx_machine.proofs.InsertReads.{same_kept, kept_grows}
@@ -28,13 +28,14 @@ use Rattle.tx_machine.proofs.CommitSteps.{puts_is, may_commit, tells_stale, dist
 pub same_fates : (old new : Fates) → new.entries ≡ old.entries → tree.get nat_cmp new ≡ tree.get nat_cmp old
 same_fates old new e = λ i q. lookup (tree.is_at (nat_cmp q)) (e i)
 
-module _ (last : ℕ) (stages : ℕ
-    → Option TxnStage) (fates : Fates) (index : Index) (reads : Reads) (t c : ℕ) (set xs : List Change)
-    (same : xs ≡ set) (stage : stages t ≡ Some (Declared set)) (none : tree.get nat_cmp fates t
-    ≡ None) (above : t < c) (upto : c ≤ last + 1)
+module _ (last : ℕ)
+    (stages : ℕ → Option TxnStage) (fates : Fates) (index : Index) (reads : Reads) (t c : ℕ) (set xs : List Change)
+    (same : xs ≡ set) (stage : stages t ≡ Some (Declared set))
+    (none : tree.get nat_cmp fates t ≡ None) (above : t < c) (upto : c ≤ last + 1)
     (free : InOrder index fates → (k : Key) (m : Mutation) → mutation_at xs k ≡ Some m
     → IsFree index fates reads t c record { key = k; mutation = m })
-    (table : Table) (tells : Tells last stages (tree.get nat_cmp fates) (version_of index) (IsKept index reads) table) where
+    (table : Table) (tells : TellsTable last stages (tree.get nat_cmp fates) (version_of index)
+    (IsKept index reads) table) where
   pub may : MayCommit table t c
   may = may_commit last stages fates index reads table tells t c set stage none above upto
       (λ k m e. free (in_order last stages fates index reads table tells) k m
@@ -44,8 +45,8 @@ module _ (last : ℕ) (stages : ℕ
       (read : (k : Key) → insert_read_in (history_of new k) ≡ insert_read_in (history_of index k)) where
     -- the reads that the inserts of a key left are as they were
     same_reads : (some_fates : ℕ → Option Fate)
-        → Tells last stages some_fates (version_of new) (IsKept index reads) table
-        → Tells last stages some_fates (version_of new) (IsKept new reads) table
+        → TellsTable last stages some_fates (version_of new) (IsKept index reads) table
+        → TellsTable last stages some_fates (version_of new) (IsKept new reads) table
     same_reads some_fates was = record {
       last_is = was.last_is;
       drawn = was.drawn;
@@ -59,7 +60,7 @@ module _ (last : ℕ) (stages : ℕ
 
     pub kept_some :
         ((n : ℕ) × ((k : Key) (q : ℕ) → version_of new k q ≡ puts t c (take n xs) (version_of index) k q))
-        → Tells last stages (tree.get nat_cmp fates) (version_of new) (IsKept new reads) table
+        → TellsTable last stages (tree.get nat_cmp fates) (version_of new) (IsKept new reads) table
     kept_some s =
         same_reads (tree.get nat_cmp fates)
         (tells_stale last stages fates index reads table tells t c set stage none may (take s.0 set)
@@ -76,9 +77,9 @@ module _ (last : ℕ) (stages : ℕ
       distinct = distinct_set last stages fates index reads table tells t c set stage none may
 
       pub kept_all : (new_fates : Fates) → new_fates.entries ≡ fates.entries
-          → Tells last stages (tree.get nat_cmp new_fates) (version_of new) (IsKept new reads) table
+          → TellsTable last stages (tree.get nat_cmp new_fates) (version_of new) (IsKept new reads) table
       kept_all new_fates e =
-          subst (λ (f : ℕ → Option Fate). Tells last stages f (version_of new) (IsKept new reads) table)
+          subst (λ (f : ℕ → Option Fate). TellsTable last stages f (version_of new) (IsKept new reads) table)
           (sym (same_fates fates new_fates e))
           (same_reads (tree.get nat_cmp fates)
           (tells_stale last stages fates index reads table tells t c set stage none may set distinct (λ k m x. x)
@@ -103,7 +104,7 @@ module _ (last : ℕ) (stages : ℕ
         pub done : (new_fates : ℕ → Option Fate)
             → ((q : ℕ) → new_fates q ≡ cond (is_eq (nat_cmp t q)) (Some (Committed c)) (tree.get nat_cmp fates q))
             → MayCommit table t c
-            × Tells last stages new_fates (version_of noted) (IsKept noted reads) (after table (Commit t c))
+            × TellsTable last stages new_fates (version_of noted) (IsKept noted reads) (after table (Commit t c))
         done new_fates was = (
           may,
           committed last stages fates index reads table tells t c set stage none may (version_of noted)

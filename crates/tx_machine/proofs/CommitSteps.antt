@@ -27,7 +27,7 @@ use Rattle.tx_machine.specs.Machine.{State, Open, Done, Rows, Table, Commits, Se
 use Rattle.tx_machine.specs.Versions.{Versions, Fates, Listed}
 use Rattle.tx_machine.specs.Noted.{Grows}
 use Rattle.tx_machine.specs.Shown.{Index, versions_of, SeenOf}
-use Rattle.tx_machine.specs.Representation.{row_of, version_in, version_of, put_version, puts, ListsCommits, KeepsReads, Tells, ListedOn, IsKept, InOrder, IsFree, Blocks}
+use Rattle.tx_machine.specs.Representation.{row_of, version_in, version_of, put_version, puts, ListsCommits, KeepsReads, TellsTable, ListedOn, IsKept, InOrder, IsFree, Blocks}
 use Rattle.tx_machine.proofs.Basics.{nat_test, key_test, cond_true, cond_false, some_same, nat_same}
 use Rattle.tx_machine.proofs.Distinct.{contained}
 use Rattle.tx_machine.proofs.Steps.{keeps_more, at, row_done, row_ended, state_in, some_changes, rows, row_here, row_other, one_row}
@@ -89,7 +89,7 @@ done_same : (c d : ℕ) → Done (Committed c) ≡ Done (Committed d) → c ≡ 
 done_same c d e = cc
 
 module _ (last : ℕ) (stages : ℕ → Option TxnStage) (fates : Fates) (index : Index) (reads : Reads) (table : Table)
-    (tells : Tells last stages (tree.get nat_cmp fates) (version_of index) (IsKept index reads) table) where
+    (tells : TellsTable last stages (tree.get nat_cmp fates) (version_of index) (IsKept index reads) table) where
   -- ---- what is listed is what is committed
 
   pub commit_listed : (k : Key) (u d : ℕ) (m : Mutation) → Commits table.row k u d m
@@ -310,7 +310,7 @@ module _ (last : ℕ) (stages : ℕ → Option TxnStage) (fates : Fates) (index 
               tells.commits.apart;
         }
 
-        pub tells_stale : Tells last stages (tree.get nat_cmp fates) new (IsKept index reads) table
+        pub tells_stale : TellsTable last stages (tree.get nat_cmp fates) new (IsKept index reads) table
         tells_stale = record {
           last_is = tells.last_is;
           drawn = tells.drawn;
@@ -335,12 +335,14 @@ module _ (last : ℕ) (stages : ℕ → Option TxnStage) (fates : Fates) (index 
 
         now_here : (q : ℕ) → t ≡ q → now q ≡ Some record { changes = Some set; state = Done (Committed c) }
         unfolding now
-        now_here q e = row_here last stages (tree.get nat_cmp fates) (version_of index) (IsKept index reads) table tells t
+        now_here q e = row_here last stages (tree.get nat_cmp fates) (version_of index)
+            (IsKept index reads) table tells t
             (Some set) (Done (Committed c)) q e
 
         now_other : (q : ℕ) → (t == q) ≡ false → now q ≡ table.row q
         unfolding now
-        now_other q e = row_other last stages (tree.get nat_cmp fates) (version_of index) (IsKept index reads) table tells t
+        now_other q e = row_other last stages (tree.get nat_cmp fates) (version_of index)
+            (IsKept index reads) table tells t
             (Some set) (Done (Committed c)) q e
 
         -- who is committed now: those before, and this one
@@ -426,11 +428,12 @@ module _ (last : ℕ) (stages : ℕ → Option TxnStage) (fates : Fates) (index 
           now_keeps : KeepsReads (record { covers = inserted (Some set); at = t } ∷ table.reads) kept
           now_keeps = keeps_more table.reads (IsKept index reads) kept (inserted (Some set)) t tells.reads grows
 
-          one : Tells last stages new_fates new kept
+          one : TellsTable last stages new_fates new kept
               (with_read (with_row table t (Some set) (Done (Committed c))) (inserted (Some set)) t)
           unfolding now
           one =
-              one_row last stages (tree.get nat_cmp fates) (version_of index) (IsKept index reads) table tells t (Some set)
+              one_row last stages (tree.get nat_cmp fates) (version_of index) (IsKept index reads) table tells t
+              (Some set)
               (Done (Committed c)) stages new_fates new
               (ap (λ (s : Option TxnStage). row_of s (new_fates t)) stage ∙ ap (row_of (Some (Declared set))) now_ended)
               (λ q e. refl)
@@ -442,7 +445,8 @@ module _ (last : ℕ) (stages : ℕ → Option TxnStage) (fates : Fates) (index 
               kept
               now_keeps
 
-          pub committed : Tells last stages new_fates new kept (after table (Commit t c))
-          committed = subst (λ (cs :
-              Option (List Change)). Tells last stages new_fates new kept
-              (with_read (with_row table t cs (Done (Committed c))) (inserted cs) t)) (sym (ap changes_in (open_row none))) one
+          pub committed : TellsTable last stages new_fates new kept (after table (Commit t c))
+          committed = subst (λ
+              (cs : Option (List Change)). TellsTable last stages new_fates new kept
+              (with_read (with_row table t cs (Done (Committed c))) (inserted cs) t))
+              (sym (ap changes_in (open_row none))) one

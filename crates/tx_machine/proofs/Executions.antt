@@ -275,7 +275,8 @@ module _ (table : Table) (t c : ℕ) (may : MayCommit table t c) where
 
   not_before : (z : Txn) → IsCommitted table.row z → z.start ≢ t
   not_before z h e =
-      open_not_ended (table.row t) (Some z.set) (Some may.set) (Committed z.commit) (ap table.row (sym e) ∙ h) may.opened
+      open_not_ended (table.row t) (Some z.set) (Some may.set) (Committed z.commit) (ap table.row (sym e)
+      ∙ h) may.opened
 
   comes : (z : Txn) → IsCommitted rows_then z → (mine ≡ z) ⊎ IsCommitted table.row z
   comes z h = elim (nat_test t z.start) [
@@ -337,7 +338,8 @@ one_more old new (order, by, are) (inr (x, more, other)) =
 find_order : (steps : List Step) → IsRun steps → Ordered (table_of steps).row
 find_order [] run = ([], tt, λ x. (λ e. absurd (cc e), λ i. absurd i))
 find_order (s ∷ steps) run =
-    one_more (table_of steps).row (after (table_of steps) s).row (find_order steps run.0) (adds (table_of steps) s run.1)
+    one_more (table_of steps).row (after (table_of steps) s).row (find_order steps run.0)
+    (adds (table_of steps) s run.1)
 
 pub serial : (steps : List Step) → IsRun steps → LocksReads steps → (order : List Txn) × IsSerial steps order
 serial steps run locks =

@@ -219,8 +219,8 @@ commit_same rows k t c d m n x y =
     (cc state, some_same m n (sym x.does ∙ (ap (λ s. mutation_at s k) set ∙ y.does)))
 
 module _ (steps : List Step) (run : IsRun steps) (k : Key) where
-  -- whoever commits k above the start of a committed transaction that changes it, and at most at its
-  -- commit, is that transaction
+  -- whoever commits k above the start of a committed transaction that changes it, and at most at
+  -- its commit, is that transaction
   pub alone : (t c u d : ℕ) (m n : Mutation) → Commits (table_of steps).row k t c m
       → Commits (table_of steps).row k u d n → t < d → d ≤ c → t ≡ u
   alone t c u d m n x y low high = elim (nat_test t u) [
@@ -230,7 +230,8 @@ module _ (steps : List Step) (run : IsRun steps) (k : Key) where
   ]
 
   -- two commits of a key at one number do the same
-  pub one_at : (t c s e : ℕ) (m n : Mutation) → Commits (table_of steps).row k t c m → Commits (table_of steps).row k s e n
+  pub one_at : (t c s e : ℕ) (m n : Mutation) → Commits (table_of steps).row k t c m
+      → Commits (table_of steps).row k s e n
       → c ≡ e → m ≡ n
   one_at t c s e m n x y same =
       let h : t < c = commits_above steps run k t c m x in

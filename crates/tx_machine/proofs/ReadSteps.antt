@@ -14,13 +14,13 @@ use Rattle.tx_machine.specs.Machine.{Table, Commits, Newest, Sees, SeesRows, wit
 use Rattle.tx_machine.specs.Versions.{Versions, Fates, Listed, NewestIn, SeenIn}
 use Rattle.tx_machine.specs.Noted.{Grows, AddsRead, SameReads, EndsWithin}
 use Rattle.tx_machine.specs.Shown.{Index, versions_of, SeenOf, Shows, ShowsRows}
-use Rattle.tx_machine.specs.Representation.{version_of, IsKept, Tells, ListedOn}
+use Rattle.tx_machine.specs.Representation.{version_of, IsKept, TellsTable, ListedOn}
 use Rattle.tx_machine.proofs.Basics.{cond_true, cond_false, key_test, key_same}
 use Rattle.tx_machine.proofs.Steps.{keeps_more}
 use Rattle.tx_machine.proofs.CommitSteps.{on_commit, commit_on}
 
 module _ (last : ℕ) (stages : ℕ → Option TxnStage) (fates : Fates) (index : Index) (reads : Reads) (table : Table)
-    (tells : Tells last stages (tree.get nat_cmp fates) (version_of index) (IsKept index reads) table) where
+    (tells : TellsTable last stages (tree.get nat_cmp fates) (version_of index) (IsKept index reads) table) where
   -- ---- what is seen
 
   module _ (k : Key) (versions : Versions) (here : versions_of index k ≡ Some versions) where
@@ -118,7 +118,7 @@ module _ (last : ℕ) (stages : ℕ → Option TxnStage) (fates : Fates) (index 
 
   -- one read more is kept
   pub reads_more : (covers : Key → Bool) (r : ℕ) (new : Reads) → AddsRead reads new covers r
-      → Tells last stages (tree.get nat_cmp fates) (version_of index) (IsKept index new) (with_read table covers r)
+      → TellsTable last stages (tree.get nat_cmp fates) (version_of index) (IsKept index new) (with_read table covers r)
   reads_more covers r new grows = record {
     last_is = tells.last_is;
     drawn = tells.drawn;
@@ -134,7 +134,7 @@ module _ (last : ℕ) (stages : ℕ → Option TxnStage) (fates : Fates) (index 
 
   -- the same reads are kept
   pub reads_same : (new : Reads) → SameReads reads new
-      → Tells last stages (tree.get nat_cmp fates) (version_of index) (IsKept index new) table
+      → TellsTable last stages (tree.get nat_cmp fates) (version_of index) (IsKept index new) table
   reads_same new same = record {
     last_is = tells.last_is;
     drawn = tells.drawn;

@@ -29,8 +29,8 @@ use Rattle.tx_machine.specs.Keys.{mutation_at}
 use Rattle.tx_machine.specs.Machine.{State, Open, Done, Row, Table, Commits, Sees, Overlap, IsRead, MayCommit}
 use Rattle.tx_machine.specs.Shown.{Index, versions_of, SeenOf, Shows}
 use Rattle.tx_machine.specs.Versions.{Versions, Fates, Listed, NewestIn, SeenIn}
-use Rattle.tx_machine.specs.Representation.{row_of, version_of, IsKept, Tells, ListedOn, Blocks}
-use Rattle.tx_machine.specs.Why.{SeesOther, IsMisplaced, LeftBy, IsSeen, value_of, Stands, standing_of, Writes, IsRefused, StandsTwice, IsOfSet, IsWhy}
+use Rattle.tx_machine.specs.Representation.{row_of, version_of, IsKept, TellsTable, ListedOn, Blocks}
+use Rattle.tx_machine.specs.Why.{SeesOther, IsMisplaced, LeftBy, IsSeen, value_of, Stands, standing_of, IsToDo, IsRefused, StandsTwice, IsOfSet, IsWhy}
 use Rattle.tx_machine.specs.declared.machine.Machine.{Machine}
 use Rattle.tx_machine.specs.declared.reason.Why.{Why}
 use Rattle.tx_machine.specs.declared.reason.Why.TheVariants as why
@@ -155,7 +155,7 @@ row_same a b o d e =
     some_same _ _ (ap (λ (r : Row). r.changes) same)
 
 -- what an open transaction is to do is in each of its sets
-pub does_in : (table : Table) (t : ℕ) (k : Key) (m : Mutation) (set : List Change) → Writes table t k m
+pub does_in : (table : Table) (t : ℕ) (k : Key) (m : Mutation) (set : List Change) → IsToDo table t k m
     → table.row t ≡ Some record { changes = Some set; state = Open } → mutation_at set k ≡ Some m
 does_in table t k m set w e =
     ap (λ (xs : List Change). mutation_at xs k) (row_same set w.set (table.row t) e w.opened) ∙ w.does
@@ -167,7 +167,7 @@ is_insert mutation.Delete h = absurd h
 is_insert mutation.Lock h = absurd h
 
 module _ (last : ℕ) (stages : ℕ → Option TxnStage) (fates : Fates) (index : Index) (reads : Reads) (table : Table)
-    (tells : Tells last stages (tree.get nat_cmp fates) (version_of index) (IsKept index reads) table) where
+    (tells : TellsTable last stages (tree.get nat_cmp fates) (version_of index) (IsKept index reads) table) where
   abbrev Here : Key → ℕ → ℕ → Mutation → Type 0
   Here k u c m = ListedOn (versions_of index k) fates u c m
 
@@ -233,13 +233,13 @@ module _ (last : ℕ) (stages : ℕ → Option TxnStage) (fates : Fates) (index 
     opened = tells.row t ∙ (ap (λ (o : Option TxnStage). row_of o (tree.get nat_cmp fates t)) declared
         ∙ ap (row_of (Some (stage.Declared set))) going)
 
-    pub writes : (change : Change) → Contains set change → Writes table t change.key change.mutation
+    pub writes : (change : Change) → Contains set change → IsToDo table t change.key change.mutation
     writes change among =
         record { set = set; opened = opened; does = contained set change (tells.distinct t set Open opened) among }
 
     pub conflicts : (c : ℕ) (change : Change) (by : Writer) → Contains set change
         → Blocks index fates reads t c change (block.Conflict by)
-        → (m : Mutation) × (n : Mutation) × Writes table t change.key m
+        → (m : Mutation) × (n : Mutation) × IsToDo table t change.key m
         × Commits table.row change.key by.start by.commit n × Overlap t c by.start by.commit
     conflicts c change by among x = (
       change.mutation,
@@ -250,7 +250,7 @@ module _ (last : ℕ) (stages : ℕ → Option TxnStage) (fates : Fates) (index 
     )
 
     pub is_read : (c r : ℕ) (change : Change) → Contains set change → Blocks index fates reads t c change (block.Read r)
-        → (m : Mutation) × Writes table t change.key m × IsVisible m × IsRead table.reads change.key r
+        → (m : Mutation) × IsToDo table t change.key m × IsVisible m × IsRead table.reads change.key r
     is_read c r change among x = (
       change.mutation,
       writes change among,
@@ -259,10 +259,10 @@ module _ (last : ℕ) (stages : ℕ → Option TxnStage) (fates : Fates) (index 
     )
 
     pub inserts : (change : Change) → Contains set change → IsInsert change.mutation
-        → (v : Value) × Writes table t change.key (mutation.Insert v)
+        → (v : Value) × IsToDo table t change.key (mutation.Insert v)
     inserts change among h =
         let is = is_insert change.mutation h in
-        (is.0, subst (λ (m : Mutation). Writes table t change.key m) is.1 (writes change among))
+        (is.0, subst (λ (m : Mutation). IsToDo table t change.key m) is.1 (writes change among))
 
   -- ---- the reasons
 
@@ -484,7 +484,7 @@ module _ (machine : Machine) where
       (change : Change) (among : Contains set change) (b : Block) (blocks :
       Blocks machine.index machine.fates machine.reads t c change b) (k : Key) (key : k ≡ change.key) where
     never_commits : (table : Table)
-        → Tells machine.last (tree.get nat_cmp machine.stages) (tree.get nat_cmp machine.fates)
+        → TellsTable machine.last (tree.get nat_cmp machine.stages) (tree.get nat_cmp machine.fates)
         (version_of machine.index) (IsKept machine.index machine.reads) table → MayCommit table t c → ⊥
     never_commits table tells may =
         not_blocked machine.last (tree.get nat_cmp machine.stages) machine.fates machine.index machine.reads table tells

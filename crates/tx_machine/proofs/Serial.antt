@@ -13,7 +13,8 @@ use Rattle.tx_machine.specs.Machine.{Rows, Commits, NoneBetween, Newest, Sees, t
 use Rattle.tx_machine.proofs.Snapshots.{put_visible, reads_stay, scans_stay}
 use Rattle.tx_machine.proofs.Inserts.{alone, commit_same}
 
--- where nothing that puts or deletes a key is committed between two numbers, the same is seen at both
+-- where nothing that puts or deletes a key is committed between two numbers, the same is seen at
+-- both
 module _ (rows : Rows) (k : Key) (low high : ℕ) (le : low ≤ high) (none : NoneBetween rows k low high) where
   up : (m : Mutation) → Newest rows k low m → Newest rows k high m
   up m w = record {
@@ -66,7 +67,8 @@ pub read_until : (more steps : List Step) (k : Key) (t c r : ℕ) (m : Mutation)
     → Commits (table_of (more ++ step.Read k t found ∷ steps)).row k t c m → t ≤ r → r < c
     → Sees (table_of (more ++ step.Read k t found ∷ steps)).row k r found
 read_until more steps k t c r m found run x le lt =
-    (sees_until (more ++ step.Read k t found ∷ steps) run k t c r m x le lt found).0 (reads_stay more steps k t found run)
+    (sees_until (more ++ step.Read k t found ∷ steps) run k t c r m x le lt found).0
+    (reads_stay more steps k t found run)
 
 -- and what a scan found of it
 pub scanned_until : (more steps : List Step) (s : ScanRead) (k : Key) (c r : ℕ) (m : Mutation)

@@ -147,7 +147,8 @@ ended_next table (step.Read j r found) a q end e = e
 ended_next table (step.Scan scan) a q end e = e
 ended_next table (step.Answer t f) a q end e = e
 
-pub read_next : (table : Table) (s : Step) → (k : Key) (r : ℕ) → IsRead table.reads k r → IsRead (after table s).reads k r
+pub read_next : (table : Table) (s : Step) → (k : Key) (r : ℕ) → IsRead table.reads k r
+    → IsRead (after table s).reads k r
 read_next table (step.Draw m) k r x = x
 read_next table (step.Begin t) k r x = x
 read_next table (step.Declare t set) k r x = x
@@ -180,7 +181,8 @@ above_read table s a k r read u d n c v le =
       | inr x ↦ absurd (omega (arith, le, x.1.0.unread k n r x.1.1 v read))
     ]
 
-pub newest_next : (table : Table) (s : Step) → Admits table s → (k : Key) (r : ℕ) → AddsNone table s k r → (m : Mutation)
+pub newest_next : (table : Table) (s : Step) → Admits table s → (k : Key) (r : ℕ) → AddsNone table s k r
+    → (m : Mutation)
     → Newest table.row k r m → Newest (after table s).row k r m
 newest_next table s a k r none m w =
     record {

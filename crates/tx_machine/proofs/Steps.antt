@@ -13,7 +13,7 @@ use Rattle.tx_machine.specs.declared.machine.TxnStage.TheVariants.{Drawn, Begun,
 use Rattle.tx_machine.specs.declared.step.Step.TheVariants.{Begin, Declare, Abort}
 use Rattle.tx_machine.specs.Keys.{IsDistinct}
 use Rattle.tx_machine.specs.Machine.{State, Open, Done, Row, Rows, Reading, Table, Commits, IsRead, Admits, after, empty, changes_in, with_row}
-use Rattle.tx_machine.specs.Representation.{row_of, ListsCommits, KeepsReads, Tells}
+use Rattle.tx_machine.specs.Representation.{row_of, ListsCommits, KeepsReads, TellsTable}
 use Rattle.tx_machine.specs.Noted.{Grows}
 use Rattle.tx_machine.proofs.Basics.{nat_test, cond_true, cond_false, some_same, nat_same, none_is}
 
@@ -77,9 +77,9 @@ same_commits old new versions same lists = record {
 
 -- ---- one row more, or another
 
-module _ (last : ℕ) (stages : ℕ → Option TxnStage) (fates : ℕ → Option Fate) (versions : Key → ℕ
-    → Option Version) (noted : Key → ℕ → Type 0) (table : Table)
-    (tells : Tells last stages fates versions noted table) where
+module _ (last : ℕ) (stages : ℕ → Option TxnStage) (fates : ℕ → Option Fate)
+    (versions : Key → ℕ → Option Version) (noted : Key → ℕ → Type 0) (table : Table)
+    (tells : TellsTable last stages fates versions noted table) where
   pub not_ended : (t : ℕ) → table.row t ≡ None → fates t ≡ None
   not_ended t none = none_is (fates t) (λ f e. tells.ended t f e none)
 
@@ -132,7 +132,7 @@ module _ (last : ℕ) (stages : ℕ → Option TxnStage) (fates : ℕ → Option
         | inr x ↦ tells.distinct q set s (sym (row_other q x.0) ∙ e)
       ]
 
-      pub one_row : Tells last new_stages new_fates new_versions new_noted
+      pub one_row : TellsTable last new_stages new_fates new_versions new_noted
           (record (with_row table t changes state) { reads = list })
       one_row = record {
         last_is = tells.last_is;
@@ -183,7 +183,7 @@ module _ (last : ℕ) (stages : ℕ → Option TxnStage) (fates : ℕ → Option
     now_begun : new t ≡ Some Begun
     now_begun = at new stages t Begun was t ∙ cond_true _ _ _ (nat_same t)
 
-    pub begins : Admits table (Begin t) × Tells last new fates versions noted (after table (Begin t))
+    pub begins : Admits table (Begin t) × TellsTable last new fates versions noted (after table (Begin t))
     begins = (
       (tells.drawn t ∙ ap (is_some {T = TxnStage}) stage, no_row),
       one_row t None Open new fates versions
@@ -196,8 +196,8 @@ module _ (last : ℕ) (stages : ℕ → Option TxnStage) (fates : ℕ → Option
           table.reads noted tells.reads,
     )
 
-  module _ (t : ℕ) (set : List Change) (stage : stages t ≡ Some Begun) (open_ : fates t
-      ≡ None) (some : set ≢ []) (distinct : IsDistinct set)
+  module _ (t : ℕ) (set : List Change) (stage : stages t ≡ Some Begun)
+      (open_ : fates t ≡ None) (some : set ≢ []) (distinct : IsDistinct set)
       (new : ℕ → Option TxnStage) (put : TxnStage) (same : put ≡ Declared set) (was : (q : ℕ)
       → new q ≡ cond (is_eq (nat_cmp t q)) (Some put) (stages q)) where
     begun_row : table.row t ≡ Some record { changes = None; state = Open }
@@ -206,7 +206,7 @@ module _ (last : ℕ) (stages : ℕ → Option TxnStage) (fates : ℕ → Option
     now_declared : new t ≡ Some (Declared set)
     now_declared = at new stages t put was t ∙ (cond_true _ _ _ (nat_same t) ∙ ap (λ (s : TxnStage). Some s) same)
 
-    pub declares : Admits table (Declare t set) × Tells last new fates versions noted (after table (Declare t set))
+    pub declares : Admits table (Declare t set) × TellsTable last new fates versions noted (after table (Declare t set))
     declares = (
       (begun_row, some, distinct),
       one_row t (Some set) Open new fates versions
@@ -219,14 +219,15 @@ module _ (last : ℕ) (stages : ℕ → Option TxnStage) (fates : ℕ → Option
           table.reads noted tells.reads,
     )
 
-  module _ (t : ℕ) (changes : Option (List Change)) (open_row : table.row t
-      ≡ Some record { changes = changes; state = Open })
+  module _ (t : ℕ) (changes : Option (List Change))
+      (open_row : table.row t ≡ Some record { changes = changes; state = Open })
       (new : ℕ → Option Fate) (was : (q : ℕ) → new q ≡ cond (is_eq (nat_cmp t q)) (Some Aborted) (fates q))
       (here : row_of (stages t) (Some Aborted) ≡ Some record { changes = changes; state = Done Aborted }) where
     now_aborted : new t ≡ Some Aborted
     now_aborted = at new fates t Aborted was t ∙ cond_true _ _ _ (nat_same t)
 
-    pub aborts : Admits table (Abort t) × Tells last stages new versions noted (with_row table t changes (Done Aborted))
+    pub aborts : Admits table (Abort t)
+        × TellsTable last stages new versions noted (with_row table t changes (Done Aborted))
     aborts = (
       (changes, open_row),
       one_row t changes (Done Aborted) stages new versions
@@ -262,11 +263,11 @@ keeps_more reads old new covers r keeps grows = record { made = made; kept = kep
 
 -- ---- before the first step
 
-pub tells_empty : (stages : ℕ → Option TxnStage) (fates : ℕ → Option Fate) (versions : Key → ℕ
-    → Option Version) (noted : Key → ℕ → Type 0)
+pub tells_empty : (stages : ℕ → Option TxnStage) (fates : ℕ → Option Fate)
+    (versions : Key → ℕ → Option Version) (noted : Key → ℕ → Type 0)
     → ((t : ℕ) → stages t ≡ None) → ((t : ℕ) → fates t ≡ None) → ((k : Key) (q : ℕ) → versions k q ≡ None)
     → ((k : Key) (r : ℕ) → noted k r → ⊥)
-    → Tells 0 stages fates versions noted empty
+    → TellsTable 0 stages fates versions noted empty
 tells_empty stages fates versions noted no_stage no_fate no_version no_read = record {
   last_is = refl;
   drawn = λ t. sym (ap (is_some {T = TxnStage}) (no_stage t));

@@ -1,11 +1,11 @@
 -- Snapshot isolation, with timestamps in the open. A transaction is named by the number at which it
 -- starts, and commits at one number in one step. Whoever reads at r sees what is committed at or
 -- below r; to keep that so for ever, no later commit may come at or below r on a key that was read
--- there (`unread`). An insert commits only where its transaction, reading at its start, sees no value
--- there (`fresh`), and its commit leaves that read. Two transactions overlap where each starts below the other's
--- commit; of two that share a key only one commits (`apart`). An async commit takes a number that
--- nobody need have drawn, at most one above the last: a transaction that starts at that number sees
--- it. Lists of steps are newest first.
+-- there (`unread`). An insert commits only where its transaction, reading at its start, sees no
+-- value there (`fresh`), and its commit leaves that read. Two transactions overlap where each
+-- starts below the other's commit; of two that share a key only one commits (`apart`). An async
+-- commit takes a number that nobody need have drawn, at most one above the last: a transaction that
+-- starts at that number sees it. Lists of steps are newest first.
 use Rattle.std.specs.Prelude.{◌≡◌, ◌≢◌, ℕ, ◌+◌, ◌<◌, ◌≤◌, ◌==◌, ◌⊎◌, Bool, true, false, cond, List, [], ◌∷◌, length, Option, Some, None, bytes_eq, IsTrue}
 use Rattle.tx_types.specs.declared.key.Key.{Key}
 use Rattle.tx_types.specs.declared.value.Value.{Value}

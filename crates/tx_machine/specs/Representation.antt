@@ -59,7 +59,7 @@ pub record KeepsReads (reads : List Reading) (kept_at : Key → ℕ → Type 0) 
   pub kept : (k : Key) (r : ℕ) → IsRead reads k r → (s : ℕ) × (r ≤ s) × kept_at k s
 
 -- what the maps say is what a table says
-pub record Tells (last : ℕ) (stages : ℕ → Option TxnStage) (fates : ℕ → Option Fate) (versions : Key → ℕ
+pub record TellsTable (last : ℕ) (stages : ℕ → Option TxnStage) (fates : ℕ → Option Fate) (versions : Key → ℕ
     → Option Version) (kept_at : Key → ℕ → Type 0) (table : Table) : Type 0 where
   pub last_is : table.last ≡ last
   pub drawn : (t : ℕ) → table.drawn t ≡ is_some (stages t)
@@ -77,7 +77,7 @@ IsKept index reads k r = IsNoted reads k r ⊎ IsInsertRead index k r
 
 -- the machine represents a table
 abbrev pub Represents : Machine → Table → Type 0
-Represents machine table = Tells machine.last (tree.get nat_cmp machine.stages) (tree.get nat_cmp machine.fates)
+Represents machine table = TellsTable machine.last (tree.get nat_cmp machine.stages) (tree.get nat_cmp machine.fates)
     (version_of machine.index) (IsKept machine.index machine.reads) table
 
 -- the machine makes the step: its table admits it, and the machine then represents the table after

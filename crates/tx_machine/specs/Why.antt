@@ -81,7 +81,7 @@ pub record StandsTwice (set : List Change) (k : Key) : Type 0 where
   pub has : mutation_at before k ≢ None
 
 -- the transaction that started at t is open, and is to do m to k
-pub record Writes (table : Table) (t : ℕ) (k : Key) (m : Mutation) : Type 0 where
+pub record IsToDo (table : Table) (t : ℕ) (k : Key) (m : Mutation) : Type 0 where
   pub set : List Change
   pub opened : table.row t ≡ Some record { changes = Some set; state = Open }
   pub does : mutation_at set k ≡ Some m
@@ -120,12 +120,12 @@ Explains table (Commit t c) (why.State start is) = (start ≡ t) × StandsOther 
 Explains table (Commit t c) (why.Early start commit) = (start ≡ t) × (commit ≡ c) × (c ≤ t)
 Explains table (Commit t c) (why.Last at last) = (at ≡ c) × (table.last ≡ last) × (last + 1 < c)
 Explains table (Commit t c) (why.Conflict key other start) = (start ≡ t)
-    × ((m : Mutation) × (n : Mutation) × Writes table t key m × Commits table.row key other.start other.commit n
+    × ((m : Mutation) × (n : Mutation) × IsToDo table t key m × Commits table.row key other.start other.commit n
     × Overlap t c other.start other.commit)
 Explains table (Commit t c) (why.Unread key at commit) = (commit ≡ c) × (c ≤ at)
-    × ((m : Mutation) × Writes table t key m × IsVisible m × IsRead table.reads key at)
+    × ((m : Mutation) × IsToDo table t key m × IsVisible m × IsRead table.reads key at)
 Explains table (Commit t c) (why.Exists key at seen) = (at ≡ t)
-    × ((v : Value) × Writes table t key (Insert v) × SeesOther table key t None seen)
+    × ((v : Value) × IsToDo table t key (Insert v) × SeesOther table key t None seen)
 Explains table (Abort t) (why.State start is) = (start ≡ t) × Stands table t is × (is ≢ Begun) × (is ≢ Declared)
 Explains table (Read k r found) (why.Read key at claims seen) = (key ≡ k) × (at ≡ r) × (claims ≡ found)
     × SeesOther table k r found seen

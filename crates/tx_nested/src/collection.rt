@@ -3,7 +3,7 @@ ghost use Rattle.std.specs.Prelude.{◌≡◌, ◌≢◌, ◌↔◌, ℕ, ◌<�
 ghost use Rattle.std.specs.BTreeMap as tree;
 ghost use Rattle.std.specs.Ordering.{nat_cmp};
 ghost use Rattle.tx_plan.specs.cases.Collect.{keeps};
-ghost use Rattle.tx_plan.specs.Collecting.{DroppedOn, long_among};
+ghost use Rattle.tx_plan.specs.Collection.{DroppedOn, long_among};
 ghost use Rattle.tx_cells.specs.Contents.{cells_of};
 ghost use Rattle.tx_cells.specs.Heads.{record_kind};
 

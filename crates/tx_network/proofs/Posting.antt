@@ -20,7 +20,7 @@ use Rattle.tx_core.proofs.seats.Parts.{part_extends}
 use Rattle.tx_journal.specs.Known.{Known, HasSeen}
 use Rattle.tx_journal.specs.Replies.{Asked, Given}
 use Rattle.tx_region.specs.Calls.{TakesNoMemory}
-use Rattle.tx_region.specs.Taking.{Answered}
+use Rattle.tx_region.specs.TakenRequests.{Answered}
 use Rattle.tx_network.specs.Networks.{NetworkParts, AreNumbered, made_by, made_for, NotesTaken, takes_memory, TakesBy, Taken, Hands}
 use Rattle.tx_network.proofs.Counts.{part_upto}
 

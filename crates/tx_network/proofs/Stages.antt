@@ -9,7 +9,7 @@ use Rattle.tx_client.specs.Walks.{Walk, asks, grows, ends}
 use Rattle.tx_steps.specs.declared.delivery.Delivery.TheVariants as deliveries
 use Rattle.tx_steps.specs.declared.delivery.Delivery.{Delivery}
 use Rattle.tx_steps.specs.Steps.{Text}
-use Rattle.tx_network.specs.Networks.{NetworkParts, request_at, body_at, NetworkState, network_state, with_events, holding, Keeps, IsHold, IsSet, MetHold, Runs}
+use Rattle.tx_network.specs.Networks.{NetworkParts, request_at, body_at, NetworkState, network_state, with_events, holding, HoldsRequest, IsHold, IsSet, MetHold, Runs}
 
 -- nothing is held anew
 pub same_network : (from to : NetworkParts) (h : History) → to.newest ≡ h → to.held ≡ from.held
@@ -28,7 +28,7 @@ some_body None = refl
 some_body (Some r) = refl
 
 -- a request is held
-pub kept_network : (name : List ℕ) (from to : NetworkParts) (q : Asked) → Keeps name from to q
+pub kept_network : (name : List ℕ) (from to : NetworkParts) (q : Asked) → HoldsRequest name from to q
     → network_state to ≡ holding (network_state from) name q.body
 kept_network name from to q keeps =
     let held : (k : List ℕ) → body_at to.held k ≡ update bytes_eq (network_state from).held name (Some q.body) k =

@@ -204,7 +204,7 @@ pub record IsUntaken (from to : NetworkParts) (q : Asked) (g : Given) : Type 0 w
   pub same : to ≡ from
 
 -- the request is held under a name, and no region took it
-pub record Keeps (name : List ℕ) (from to : NetworkParts) (q : Asked) : Type 0 where
+pub record HoldsRequest (name : List ℕ) (from to : NetworkParts) (q : Asked) : Type 0 where
   pub regions : to.regions ≡ from.regions
   pub newest : to.newest ≡ from.newest
   pub held : (k : List ℕ) → request_at to.held k ≡ update bytes_eq (request_at from.held) name (Some q) k
@@ -219,7 +219,7 @@ Untaken a q (Err l) b = ⊥
 -- it is held; or memory for that was refused
 abbrev pub HeldUnder : List ℕ → NetworkParts → Asked → Reached → NetworkParts → Type 0
 HeldUnder name a q (Ok g) b = IsUntaken a b q g
-HeldUnder name a q (Err l) b = Keeps name a b q
+HeldUnder name a q (Err l) b = HoldsRequest name a b q
 
 module _ (bounds : List Key) where
   abbrev pub Replied : NetworkParts → Asked → Reached → NetworkParts → Type 0

@@ -12,19 +12,20 @@ ghost use Rattle.tx_journal.specs.Replies.{Asked, Given};
 ghost use Rattle.tx_journal.specs.Senders.{IsHeld};
 ghost use Rattle.tx_steps.specs.declared.delivery.Delivery.TheVariants as deliveries;
 ghost use Rattle.tx_steps.specs.Steps.{delivered, delivery_named};
-ghost use Rattle.tx_network.specs.Networks.{AreNumbered, AllFit, region_for, IsSet, request_at, Hands, Twice, IsUntaken, HeldUnder, IsDone, network_state, may_go, is_crowded};
+ghost use Rattle.tx_network.specs.Networks.{AreNumbered, AllFit, region_for, IsSet, request_at, Hands, IsDone, network_state, may_go, is_crowded};
 
-mod showing;
-mod tracing;
+mod inspection;
+mod sender;
+mod trace;
 
 use crate::delivery::own_delivery;
-use crate::network::tracing::note_reply;
+use crate::network::trace::note_reply;
 use std::alloc::Global;
 use std::collections::BTreeMap;
 use std::marker::Model;
 use tx_cells::Families;
 use tx_core::{Answer, Body, Target};
-use tx_journal::{Journal, JournalId, Lost, Reply, Request, Seat, Sender, Told};
+use tx_journal::{Journal, JournalId, Reply, Request, Seat, Told};
 use tx_region::{Region, route};
 use tx_steps::Delivery;
 use tx_trace::Trace;
@@ -162,44 +163,6 @@ impl<J: JournalId, F: Families> Network<J, F> {
         self.newest = region.tell();
         note_reply(&mut self.trace, &reply);
         reply
-    }
-
-    // No region takes a request, since memory was refused.
-    #[cold]
-    #[inline(never)]
-    fn refuse(&mut self, request: Request<J>) -> Reply<J>
-        ensures { IsUntaken self.old self.new request result }
-    {
-        let told = self.newest();
-        Reply::new(request, None, told)
-    }
-
-    // The region takes a request twice, where there is memory for a copy of it.
-    #[cold]
-    #[inline(never)]
-    fn take_twice(&mut self, mut request: Request<J>) -> Reply<J>
-        requires { IsHeld J.bounds request.body }
-        ensures { IsUntaken self.old self.new request result
-            ⊎ Twice (region_for J.bounds request.body) self.old self.new request result }
-    {
-        let Ok(copy) = self.regions[0].again(&mut request) else {
-            return self.refuse(request);
-        };
-        drop(self.take(copy));
-        self.take(request)
-    }
-
-    // A request is held under a name, where there is memory for that.
-    #[cold]
-    #[inline(never)]
-    fn hold(&mut self, name: String, request: Request<J>) -> Result<Reply<J>, Lost>
-        requires { IsHeld J.bounds request.body }
-        ensures { HeldUnder (string_bytes name) self.old request result self.new }
-    {
-        match keep(&mut self.held, name, request) {
-            Ok(()) => Err(Lost),
-            Err(request) => Ok(self.refuse(request)),
-        }
     }
 
     // A copy of the request that is held under a name, where one is. Memory for it may be refused.
@@ -344,59 +307,6 @@ impl<J: JournalId, F: Families + Drop> Network<J, F> {
         } = self;
         'regions: while let Some(mut region) = regions.pop() {
             region.learn(by.copy(newest));
-        }
-    }
-}
-
-impl<J: JournalId, F: Families> Sender<Request<J>, Reply<J>> for Network<J, F> {
-    ghost use Rattle.tx_journal.specs.Senders.{IsHeld};
-    ghost use Rattle.tx_network.specs.Networks.{Passes};
-
-    ghost fits = { λ a q. IsHeld J.bounds q.body };
-
-    ghost sends = { λ a q r b. Passes J.bounds a.delivery a q r b };
-
-    ghost keys_between = { λ a. J.bounds };
-
-    fn send(&mut self, request: Request<J>) -> Result<Reply<J>, Lost> {
-        if let Some(Delivery::Taken) = &self.delivery {
-            return Ok(self.take(request));
-        }
-        self.send_by_delivery(request)
-    }
-
-    fn bounds(&self) -> &[Key] {
-        self.journal.bounds()
-    }
-}
-
-impl<J: JournalId, F: Families> Network<J, F> {
-    ghost use Rattle.tx_journal.specs.Senders.{IsHeld};
-    ghost use Rattle.tx_network.specs.Networks.{Passes};
-
-    // Sends a request by the delivery that is set. Few are not simply taken, so it stands apart.
-    #[cold]
-    #[inline(never)]
-    fn send_by_delivery(&mut self, request: Request<J>) -> Result<Reply<J>, Lost>
-        requires { IsHeld J.bounds request.body }
-        ensures { Passes J.bounds self.old.delivery self.old request result self.new }
-    {
-        match &self.delivery {
-            None => Ok(self.refuse(request)),
-            Some(Delivery::Taken) => Ok(self.take(request)),
-            Some(Delivery::Lost) => {
-                drop(request);
-                Err(Lost)
-            }
-            Some(Delivery::Unanswered) => {
-                drop(self.take(request));
-                Err(Lost)
-            }
-            Some(Delivery::Repeated) => Ok(self.take_twice(request)),
-            Some(Delivery::Held(name)) => match name.clone() {
-                Ok(name) => self.hold(name, request),
-                Err(_) => Ok(self.refuse(request)),
-            },
         }
     }
 }

@@ -120,7 +120,8 @@ all_noted f first told more n is long past u =
       | inl less ↦ is.below u less
       | inr le ↦
           let behind : length first ≤ u = omega (arith, long, le) in
-          let here : get_or told u false ≡ false = get_or_past told u false (subst (λ m. m ≤ u) (sym is.count) behind) in
+          let here : get_or told u false ≡ false =
+          get_or_past told u false (subst (λ m. m ≤ u) (sym is.count) behind) in
           let there : get_or first u false ≡ false = get_or_past first u false behind in
           here ∙ sym (ap (λ b. b || f u) there ∙ past u behind)
     ]

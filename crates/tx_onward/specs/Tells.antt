@@ -1,6 +1,6 @@
 -- Of which transactions a no tells: of those on its cycle, or of the one that read what it names.
--- Of a cycle of writes alone it also tells of those that read in the key of its first edge what that
--- edge's second transaction put there: that is why the order of its writes is known.
+-- Of a cycle of writes alone it also tells of those that read in the key of its first edge what
+-- that edge's second transaction put there: that is why the order of its writes is known.
 use Rattle.std.specs.Prelude.{ℕ, ◌+◌, ◌==◌, Bool, true, false, ◌&&◌, ◌||◌, cond, List, [], ◌∷◌, length, nat_le, Option, Some, None, slice_get}
 use Rattle.std.specs.List.{list_any}
 use Rattle.tx_verdict.specs.declared.anomaly.Anomaly.{Anomaly}

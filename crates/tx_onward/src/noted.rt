@@ -16,7 +16,8 @@ fn note_one(told: &mut [bool], recording: &Recording, verdict: &Verdict, t: usiz
     ensures yes { result ≡ true → (slice_index_or told.old t false ≡ false)
         × (tells_of recording.now verdict.now t ≡ true) × (told.new ≡ slice_set told.old t true) }
     ensures no { result ≡ false → (told.new ≡ told.old)
-        × ((slice_index_or told.old t false || tells_of recording.now verdict.now t) ≡ slice_index_or told.old t false) }
+        × ((slice_index_or told.old t false || tells_of recording.now verdict.now t)
+        ≡ slice_index_or told.old t false) }
 {
     if told[t] || !tells(recording, verdict, t as u32) {
         return false;

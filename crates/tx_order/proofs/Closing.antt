@@ -29,8 +29,10 @@ closes edges marks path done to place p search h is mark same =
 pub within_at : (n : ℕ) (edges : List Edge) (e a b : ℕ) → AreWithin n edges → e < length edges
     → edge_at edges e ≡ record { from = a; to = b } → b < n
 within_at n edges e a b within h is =
-    let both = All-get_or (λ (edge : Edge). (edge.from < n) × (edge.to < n)) edges e record { from = 0; to = 0 } h within in
+    let both = All-get_or (λ (edge : Edge). (edge.from < n) × (edge.to < n)) edges e record { from = 0; to = 0 } h
+    within in
     subst (λ (edge : Edge). edge.to < n) is both.1
 
-pub mark_read : (marks : List Mark) (v : ℕ) (m n : Mark) → v < length marks → m ≡ get_or marks v m → m ≡ n → mark_of marks v ≡ n
+pub mark_read : (marks : List Mark) (v : ℕ) (m n : Mark) → v < length marks → m ≡ get_or marks v m → m ≡ n
+    → mark_of marks v ≡ n
 mark_read marks v m n h read is = get_or_default marks v Unseen m h ∙ sym read ∙ is

@@ -11,7 +11,8 @@ use Rattle.tx_order.proofs.Marks.{same_edge}
 
 -- each of these nodes has an edge to the next
 abbrev pub AreLinked : List Edge → List ℕ → Type 0
-AreLinked edges xs = (i : ℕ) → i + 1 < length xs → Contains edges record { from = get_or xs i 0; to = get_or xs (i + 1) 0 }
+AreLinked edges xs = (i : ℕ) → i + 1 < length xs
+    → Contains edges record { from = get_or xs i 0; to = get_or xs (i + 1) 0 }
 
 cons_at : (x : ℕ) (xs : List ℕ) (i : ℕ) → get_or (x ∷ xs) (i + 1) 0 ≡ get_or xs i 0
 cons_at x xs i = grind (arith, common_steps)
@@ -54,7 +55,8 @@ node_from path place i h =
 length_from : (path : List Frame) (place : ℕ) → length (nodes_from path place) ≡ length path - place
 length_from path place = length-map (drop place path) (λ (f : Frame). f.node) ∙ length-drop place path
 
-pub closed : (edges : List Edge) (marks : List Mark) (path : List Frame) (done place : ℕ) → IsSearch edges marks path done
+pub closed : (edges : List Edge) (marks : List Mark) (path : List Frame) (done place : ℕ)
+    → IsSearch edges marks path done
     → place < length path → Contains edges record { from = (top_of path).node; to = node_at path place }
     → IsCycle edges (nodes_from path place)
 closed edges marks path done place search h back =

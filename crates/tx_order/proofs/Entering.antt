@@ -61,7 +61,8 @@ linked_top edges path x p above h link =
     let lt : p < length path = omega arith in
     let some : length path ≢ 0 = omega arith in
     let top : length path - 1 ≡ p = omega arith in
-    same_edge edges _ _ _ _ (node-push_below path x p lt ∙ ap (node_at path) (sym top)) (node-push_at path x (p + 1) last)
+    same_edge edges _ _ _ _ (node-push_below path x p lt ∙ ap (node_at path) (sym top))
+    (node-push_at path x (p + 1) last)
     (link some)
 
 last_index : (path : List Frame) (x : Frame) (p : ℕ) → length path ≤ p → p < length (path ++ x ∷ []) → p ≡ length path
@@ -112,7 +113,8 @@ entered-path edges marks path done v next c =
         | inr above ↦ entered_mark marks path x p c.within above h
       ];
       upto = λ p h. elim (cases_lt p n) [
-        | inl below ↦ (let same = next-push_below path x p below in let lt = old.upto p below in omega (arith, same, lt))
+        | inl below ↦ (let same = next-push_below path x p below in let lt =
+            old.upto p below in omega (arith, same, lt))
         | inr above ↦ entered_next edges path x p above h c.upto
       ];
       ahead = λ p e h le within. elim (cases_lt p n) [
@@ -163,7 +165,8 @@ new_rest n next = omega arith
 fewer_unseen : (a b s t r k : ℕ) → b ≡ a + 1 → t ≡ s + r → r < k → a * k + t < b * k + s
 fewer_unseen a b s t r k e h lt = rw (e, h) (grind arith)
 
-pub entered-met : (marks : List Mark) (v : ℕ) (m : Mark) → mark_of marks v ≡ Unseen → StaysMet marks (slice_set marks v m)
+pub entered-met : (marks : List Mark) (v : ℕ) (m : Mark) → mark_of marks v ≡ Unseen
+    → StaysMet marks (slice_set marks v m)
 entered-met marks v m is = (length-set marks v m, λ w so. unseen_set marks v w m is so)
 
 pub entered-smaller : (edges : List Edge) (marks : List Mark) (path : List Frame) (done v next : ℕ)

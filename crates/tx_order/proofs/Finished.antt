@@ -6,7 +6,8 @@ use Rattle.tx_order.specs.declared.search.Mark.TheVariants.{Unseen, Open, Done}
 use Rattle.tx_order.specs.declared.search.Frame.{Frame}
 use Rattle.tx_order.specs.Search.{mark_of, IsSearch}
 
-done_by : (edges : List Edge) (marks : List Mark) (path : List Frame) (done v : ℕ) (m : Mark) → IsSearch edges marks path done
+done_by : (edges : List Edge) (marks : List Mark) (path : List Frame) (done v : ℕ) (m : Mark)
+    → IsSearch edges marks path done
     → length path ≡ 0 → mark_of marks v ≡ m → m ≢ Unseen → (f : ℕ) × (mark_of marks v ≡ Done f)
 done_by edges marks path done v Unseen search empty is ne = absurd (ne refl)
 done_by edges marks path done v (Open p) search empty is ne =
@@ -15,4 +16,5 @@ done_by edges marks path done v (Done f) search empty is ne = (f, is)
 
 pub all_done : (edges : List Edge) (marks : List Mark) (path : List Frame) (done v : ℕ) → IsSearch edges marks path done
     → length path ≡ 0 → mark_of marks v ≢ Unseen → (f : ℕ) × (mark_of marks v ≡ Done f)
-all_done edges marks path done v search empty ne = done_by edges marks path done v (mark_of marks v) search empty refl ne
+all_done edges marks path done v search empty ne =
+    done_by edges marks path done v (mark_of marks v) search empty refl ne

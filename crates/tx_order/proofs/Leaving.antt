@@ -91,7 +91,8 @@ leaves_opened edges marks path x done c v p is =
     let (lt, at) = c.search.path_is.opened v p was in
     elim (cases_lt p (length path)) [
       | inl below ↦ (below, sym (node-push_below path x p below) ∙ at)
-      | inr above ↦ absurd (ne (sym at ∙ node-push_at path x p (let n = length-push path x in omega (arith, n, lt, above))))
+      | inr above ↦ absurd (ne
+          (sym at ∙ node-push_at path x p (let n = length-push path x in omega (arith, n, lt, above))))
     ]
 
 leaves_path : (edges : List Edge) (marks : List Mark) (path : List Frame) (x : Frame) (done : ℕ)

@@ -11,7 +11,8 @@ use Rattle.tx_order.specs.Search.{mark_of, frame_at, node_at}
 pub mark-set_same : (marks : List Mark) (v : ℕ) (m : Mark) → v < length marks → mark_of (slice_set marks v m) v ≡ m
 mark-set_same marks v m h = get_or-set_same marks v m Unseen h
 
-pub mark-set_other : (marks : List Mark) (v w : ℕ) (m : Mark) → w ≢ v → mark_of (slice_set marks v m) w ≡ mark_of marks w
+pub mark-set_other : (marks : List Mark) (v w : ℕ) (m : Mark) → w ≢ v
+    → mark_of (slice_set marks v m) w ≡ mark_of marks w
 mark-set_other marks v w m ne = get_or-set_other marks v w m Unseen ne
 
 -- a finished node was finished before, where another was marked as open
@@ -35,7 +36,8 @@ pub still_open : (marks : List Mark) (v w p : ℕ) (m : Mark) → v < length mar
 still_open marks v w p m h is so = grind (arith, common_steps, mark-set_same, mark-set_other)
 
 -- the path with one node more
-pub frame-push_below : (path : List Frame) (x : Frame) (p : ℕ) → p < length path → frame_at (path ++ x ∷ []) p ≡ frame_at path p
+pub frame-push_below : (path : List Frame) (x : Frame) (p : ℕ) → p < length path
+    → frame_at (path ++ x ∷ []) p ≡ frame_at path p
 frame-push_below path x p h = grind (arith, common_steps)
 
 pub frame-push_at : (path : List Frame) (x : Frame) (p : ℕ) → p ≡ length path → frame_at (path ++ x ∷ []) p ≡ x
@@ -44,7 +46,8 @@ frame-push_at path x p h = grind (arith, common_steps)
 pub length-push : (path : List Frame) (x : Frame) → length (path ++ x ∷ []) ≡ length path + 1
 length-push path x = grind (arith, common_steps)
 
-pub node-push_below : (path : List Frame) (x : Frame) (p : ℕ) → p < length path → node_at (path ++ x ∷ []) p ≡ node_at path p
+pub node-push_below : (path : List Frame) (x : Frame) (p : ℕ) → p < length path
+    → node_at (path ++ x ∷ []) p ≡ node_at path p
 node-push_below path x p h = ap (λ (f : Frame). f.node) (frame-push_below path x p h)
 
 pub next-push_below : (path : List Frame) (x : Frame) (p : ℕ) → p < length path
@@ -54,7 +57,8 @@ next-push_below path x p h = ap (λ (f : Frame). f.next) (frame-push_below path 
 pub node-push_at : (path : List Frame) (x : Frame) (p : ℕ) → p ≡ length path → node_at (path ++ x ∷ []) p ≡ x.node
 node-push_at path x p h = ap (λ (f : Frame). f.node) (frame-push_at path x p h)
 
-pub next-push_at : (path : List Frame) (x : Frame) (p : ℕ) → p ≡ length path → (frame_at (path ++ x ∷ []) p).next ≡ x.next
+pub next-push_at : (path : List Frame) (x : Frame) (p : ℕ) → p ≡ length path
+    → (frame_at (path ++ x ∷ []) p).next ≡ x.next
 next-push_at path x p h = ap (λ (f : Frame). f.next) (frame-push_at path x p h)
 
 -- equal numbers for equal ones
@@ -90,7 +94,8 @@ pub done-done : (marks : List Mark) (v w n f : ℕ) → v < length marks → mar
     → ((w ≡ v) × (f ≡ n)) ⊎ (mark_of marks w ≡ Done f)
 done-done marks v w n f h is = grind (arith, common_steps, mark-set_same, mark-set_other)
 
-open_other : (marks : List Mark) (v w n p : ℕ) → v < length marks → mark_of (slice_set marks v (Done n)) w ≡ Open p → w ≢ v
+open_other : (marks : List Mark) (v w n p : ℕ) → v < length marks → mark_of (slice_set marks v (Done n)) w ≡ Open p
+    → w ≢ v
 open_other marks v w n p h is e = grind (arith, common_steps, mark-set_same)
 
 mark_past : (marks : List Mark) (v : ℕ) → length marks ≤ v → mark_of marks v ≡ Unseen
@@ -99,7 +104,8 @@ mark_past marks v h = grind (arith, common_steps)
 -- what is open now was open, and it is not that node
 pub open-done : (marks : List Mark) (v w n p : ℕ) → v < length marks → mark_of (slice_set marks v (Done n)) w ≡ Open p
     → (w ≢ v) × (mark_of marks w ≡ Open p)
-open-done marks v w n p h is = (open_other marks v w n p h is, grind (arith, common_steps, mark-set_same, mark-set_other))
+open-done marks v w n p h is =
+    (open_other marks v w n p h is, grind (arith, common_steps, mark-set_same, mark-set_other))
 
 -- a node with a mark is one of the nodes
 pub mark_within : (marks : List Mark) (v : ℕ) → mark_of marks v ≢ Unseen → v < length marks

@@ -25,9 +25,11 @@ AllDone n marks = (v : ℕ) → v < n → (f : ℕ) × (mark_of marks v ≡ Done
 
 rises_at : (n : ℕ) (edges : List Edge) (marks : List Mark) (path : List Frame) (done : ℕ) → AreWithin n edges
     → IsSearch edges marks path done → length marks ≡ n → AllDone n marks → (e : ℕ) → e < length edges
-    → get_or (map (place_in done) marks) (edge_at edges e).from 0 < get_or (map (place_in done) marks) (edge_at edges e).to 0
+    → get_or (map (place_in done) marks) (edge_at edges e).from 0 < get_or (map (place_in done) marks)
+    (edge_at edges e).to 0
 rises_at n edges marks path done within search len all e h =
-    let both = All-get_or (λ (edge : Edge). (edge.from < n) × (edge.to < n)) edges e record { from = 0; to = 0 } h within in
+    let both = All-get_or (λ (edge : Edge). (edge.from < n) × (edge.to < n)) edges e record { from = 0; to = 0 } h
+    within in
     let (f, is) = all (edge_at edges e).from both.0 in
     let (g, lt, so) = search.finishes.leads e f h is in
     let a = place_done marks done (edge_at edges e).from f (omega (arith, len, both.0)) is in
@@ -52,7 +54,8 @@ pub ordered : (n : ℕ) (edges : List Edge) (marks : List Mark) (path : List Fra
 ordered n edges marks path done within search len all = record {
   each = length-map marks (place_in done) ∙ len;
   rises = All-from_get_or
-      (λ (edge : Edge). get_or (map (place_in done) marks) edge.from 0 < get_or (map (place_in done) marks) edge.to 0) edges record { from = 0; to = 0 }
+      (λ (edge : Edge). get_or (map (place_in done) marks) edge.from 0 < get_or (map (place_in done) marks) edge.to 0)
+      edges record { from = 0; to = 0 }
       (rises_at n edges marks path done within search len all);
   distinct = distinct_at n edges marks path done search len all;
 }

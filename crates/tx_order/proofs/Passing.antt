@@ -10,7 +10,8 @@ use Rattle.tx_order.specs.Search.{edge_at, mark_of, frame_at, node_at, top_of, I
 use Rattle.tx_order.proofs.Marks.{same_edge, same_mark}
 
 -- the node at i, whose next edge leads to a finished one, and what is there then
-pub record Passes (edges : List Edge) (marks : List Mark) (path : List Frame) (i : ℕ) (y : Frame) (done : ℕ) : Type 0 where
+pub record Passes (edges : List Edge) (marks : List Mark) (path : List Frame) (i : ℕ) (y : Frame)
+    (done : ℕ) : Type 0 where
   pub search : IsSearch edges marks path done
   pub at : i < length path
   pub same : y.node ≡ node_at path i
@@ -31,7 +32,8 @@ node-set : (path : List Frame) (i p : ℕ) (y : Frame) → i < length path → y
     → node_at (slice_set path i y) p ≡ node_at path p
 node-set path i p y h same = elim (same_or_not p i) [
   | inl e ↦ ap (node_at (slice_set path i y)) e
-      ∙ ap (λ (f : Frame). f.node) (get_or-set_same path i y record { node = 0; next = 0 } h) ∙ same ∙ ap (node_at path) (sym e)
+      ∙ ap (λ (f : Frame). f.node) (get_or-set_same path i y record { node = 0; next = 0 } h) ∙ same
+      ∙ ap (node_at path) (sym e)
   | inr ne ↦ ap (λ (f : Frame). f.node) (get_or-set_other path i p y record { node = 0; next = 0 } ne)
 ]
 
@@ -90,7 +92,8 @@ passes_path edges marks path i y done c =
           let next = later_next path i y p e c.at c.next le in
           let is = old.ahead p e (omega (arith, n, h)) next within in omega (arith, same, is));
       linked = λ p h. same_edge edges _ _ _ _ (node p) (node (p + 1)) (old.linked p (omega (arith, n, h)));
-      passed = λ p e h lt within from. passes_passed edges marks path i y done c p e (omega (arith, n, h)) lt within (from ∙ node p);
+      passed = λ p e h lt within from. passes_passed edges marks path i y done c p e (omega (arith, n, h)) lt within
+          (from ∙ node p);
     }
 
 pub passed : (edges : List Edge) (marks : List Mark) (path : List Frame) (i : ℕ) (y : Frame) (done : ℕ)

@@ -21,15 +21,19 @@ order-permutation n xs ys places p h = record {
   distinct = h.distinct;
 }
 
-walk-permutation : (xs ys : List Edge) (a : ℕ) (walk : List ℕ) (b : ℕ) → IsPermutation xs ys → IsWalk ys a walk b → IsWalk xs a walk b
+walk-permutation : (xs ys : List Edge) (a : ℕ) (walk : List ℕ) (b : ℕ) → IsPermutation xs ys → IsWalk ys a walk b
+    → IsWalk xs a walk b
 walk-permutation xs ys a [] b p h = Contains-permutation ys xs record { from = a; to = b } (IsPermutation-sym xs ys p) h
-walk-permutation xs ys a (x ∷ walk) b p h =
-    (Contains-permutation ys xs record { from = a; to = x } (IsPermutation-sym xs ys p) h.0, walk-permutation xs ys x walk b p h.1)
+walk-permutation xs ys a (x ∷ walk) b p h = (
+  Contains-permutation ys xs record { from = a; to = x } (IsPermutation-sym xs ys p) h.0,
+  walk-permutation xs ys x walk b p h.1,
+)
 
 pub cycle-permutation : (xs ys : List Edge) (nodes : List ℕ) → IsPermutation xs ys → IsCycle ys nodes → IsCycle xs nodes
 cycle-permutation xs ys [] p h = h
 cycle-permutation xs ys (x ∷ nodes) p h = walk-permutation xs ys x nodes x p h
 
-pub unordered-permutation : (xs ys : List Edge) (e : Unordered) → IsPermutation xs ys → IsUnordered ys e → IsUnordered xs e
+pub unordered-permutation : (xs ys : List Edge) (e : Unordered) → IsPermutation xs ys → IsUnordered ys e
+    → IsUnordered xs e
 unordered-permutation xs ys (Cycle nodes) p h = cycle-permutation xs ys nodes.items p h
 unordered-permutation xs ys Memory p h = tt

@@ -32,10 +32,12 @@ joins edges s t lt same =
     subst (λ q. Contains edges record { from = (edge_at edges s).from; to = q }) same
     (Contains-get_or edges s record { from = 0; to = 0 } lt)
 
-pub joins_at : (edges : List Edge) (s t u : ℕ) → s < length edges → (edge_at edges s).to ≡ (edge_at edges t).from → t ≡ u
+pub joins_at : (edges : List Edge) (s t u : ℕ) → s < length edges → (edge_at edges s).to ≡ (edge_at edges t).from
+    → t ≡ u
     → Contains edges record { from = (edge_at edges s).from; to = (edge_at edges u).from }
 joins_at edges s t u lt same at =
-    subst (λ q. Contains edges record { from = (edge_at edges s).from; to = (edge_at edges q).from }) at (joins edges s t lt same)
+    subst (λ q. Contains edges record { from = (edge_at edges s).from; to = (edge_at edges q).from }) at
+    (joins edges s t lt same)
 
 -- round
 pub round : (edges : List Edge) (nodes steps : List ℕ) → length nodes ≡ length steps → length steps ≢ 0
@@ -50,5 +52,6 @@ round edges nodes steps n some from linked last =
     (λ i lt. same_edge edges _ _ _ _ (let e : slice_index nodes i ≡ slice_index nodes i = cc in e)
     (from (i + 1) (omega (arith, n, lt))) (linked i (omega (arith, n, lt)) (omega (arith, n, lt))))
     (let end : length nodes - 1 < length steps = omega (arith, n, some) in
-    same_edge edges _ _ _ _ (let e : slice_index nodes (length nodes - 1) ≡ slice_index nodes (length nodes - 1) = cc in e)
+    same_edge edges _ _ _ _ (let e : slice_index nodes (length nodes - 1) ≡ slice_index nodes (length nodes - 1) =
+    cc in e)
     (from 0 (omega (arith, some))) (last (length nodes - 1) end (omega (arith, n, some))))

@@ -12,7 +12,8 @@ pub record IsOrder (n : ℕ) (edges : List Edge) (places : List ℕ) : Type 0 wh
   pub rises : All (λ edge. slice_index places edge.from < slice_index places edge.to) edges
   pub distinct : (a b : ℕ) → a < n → b < n → slice_index places a ≡ slice_index places b → a ≡ b
 
--- there is an edge from a to the first of these nodes, from each to the next, and from the last to b
+-- there is an edge from a to the first of these nodes, from each to the next, and from the last to
+-- b
 abbrev pub IsWalk : List Edge → ℕ → List ℕ → ℕ → Type 0
 IsWalk edges a [] b = Contains edges record { from = a; to = b }
 IsWalk edges a (x ∷ xs) b = Contains edges record { from = a; to = x } × IsWalk edges x xs b

@@ -146,7 +146,8 @@ impl Search {
         Ok(None)
     }
 
-    // Makes steps until nothing is on the path, or gives where on it an edge of its last node leads.
+    // Makes steps until nothing is on the path, or gives where on it an edge of its last node
+    // leads.
     fn finish(&mut self, edges: &[Edge]) -> Result<Option<usize>, AllocError>
         requires by_from { AreByFrom edges.now }
         requires nodes { AreWithin (length self.old.marks.items) edges.now }
@@ -205,7 +206,8 @@ impl Search {
         Ok(None)
     }
 
-    /// Meets all nodes, and finishes them, or gives where on the path an edge of its last node leads.
+    /// Meets all nodes, and finishes them, or gives where on the path an edge of its last node
+    /// leads.
     pub(crate) fn meet_all(
         &mut self,
         edges: &[Edge],

@@ -11,8 +11,8 @@ use std::alloc::{AllocError, Global};
 // From how many nodes of the cycle a shorter one is looked for.
 const MOST_STARTS: usize = 16;
 
-// The shorter of a cycle and those that lead through its nodes, over edges in the order of where they
-// come from.
+// The shorter of a cycle and those that lead through its nodes, over edges in the order of where
+// they come from.
 fn shorten_by_from(
     alloc: Global,
     nodes: u32,
@@ -40,9 +40,9 @@ fn shorten_by_from(
     Ok(least)
 }
 
-/// A cycle of at most as many nodes as one that is known. From each of its first 16 nodes it searches
-/// breadth first for the least one through that node, over at most 65,536 nodes. It sorts the edges by
-/// where they come from.
+/// A cycle of at most as many nodes as one that is known. From each of its first 16 nodes it
+/// searches breadth first for the least one through that node, over at most 65,536 nodes. It sorts
+/// the edges by where they come from.
 ///
 /// `AllocError` where there was no room.
 pub fn shorten(

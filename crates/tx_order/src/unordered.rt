@@ -43,8 +43,9 @@ fn order_by_from(alloc: Global, nodes: u32, edges: &[Edge]) -> Result<Vec<usize>
     }
 }
 
-/// Gives each of so many nodes a place, such that the places rise along each edge, or finds a cycle.
-/// It sorts the edges by where they come from. It costs n log n in the edges, and a few words a node.
+/// Gives each of so many nodes a place, such that the places rise along each edge, or finds a
+/// cycle. It sorts the edges by where they come from. It costs n log n in the edges, and a few
+/// words a node.
 ///
 /// `Unordered::Cycle` where there is no order, `Unordered::Memory` where there was no room to find
 /// out.

@@ -9,7 +9,7 @@ use Rattle.tx_plan.specs.declared.key_records.RecordKind.{RecordKind}
 use Rattle.tx_plan.specs.Cells.{Write, CommitOf, Rollback, Writes, is_long}
 use Rattle.tx_types.specs.Keys.{is_visible}
 use Rattle.tx_plan.specs.cases.Collect.{is_put, commit_is, none_above, keeps}
-use Rattle.tx_plan.specs.Collecting.{NoneUpto, IsNext, DroppedOn, long_among, past}
+use Rattle.tx_plan.specs.Collection.{NoneUpto, IsNext, DroppedOn, long_among, past}
 use Rattle.tx_plan.proofs.LockRows.{contains_next, contains_first, contains_cases, contains_none}
 
 -- ---- what a record says

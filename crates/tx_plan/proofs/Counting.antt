@@ -8,7 +8,7 @@ use Rattle.tx_types.specs.Keys.{key_lt}
 use Rattle.tx_plan.specs.Cells.{Write, Cells, no_cells, is_long}
 use Rattle.tx_plan.specs.Walks.{KeyRow, AreInOrder, IsWalk, every_key}
 use Rattle.tx_plan.specs.cases.Collect.{keeps, kept, commit_is, IsDropped, AllDropped, long_values}
-use Rattle.tx_plan.specs.Collecting.{DroppedOn, long_among, stays, without_below}
+use Rattle.tx_plan.specs.Collection.{DroppedOn, long_among, stays, without_below}
 use Rattle.tx_plan.proofs.KeyOrder.{ordered, lt_trans, lt_itself, lt_back}
 use Rattle.tx_plan.proofs.WalkRows.{comes_before, AreLeft, left_first, left_rest, first_cells, first_before_rest, gap_none, start_none}
 use Rattle.tx_plan.proofs.LockRows.{contains_first, contains_next, contains_cases, contains_none}

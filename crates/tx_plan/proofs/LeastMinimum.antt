@@ -46,7 +46,16 @@ more_promises cells safe loaded P Q b a f
         n1,
         inr (
           n2,
-          inr (n3, inr (n4, inr (n5, inr (n6, inr (n7, inl (async, (m, f (not_above b.start loaded n1) async m p, c))))))),
+          inr (
+            n3,
+            inr (
+              n4,
+              inr (
+                n5,
+                inr (n6, inr (n7, inl (async, (m, f (not_above b.start loaded n1) async m p, c)))),
+              ),
+            ),
+          ),
         ),
       ),
     )

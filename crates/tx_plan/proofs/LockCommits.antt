@@ -10,7 +10,7 @@ use Rattle.tx_plan.specs.declared.view.LockHead.{LockHead}
 use Rattle.tx_plan.specs.Cells.{Lock, Writes, Cells}
 use Rattle.tx_plan.specs.Own.{is_rollback}
 use Rattle.tx_plan.specs.Views.{HasOwnHead}
-use Rattle.tx_plan.specs.Committing.{MayCommitAt, IsRefusal}
+use Rattle.tx_plan.specs.LockCommit.{MayCommitAt, IsRefusal}
 use Rattle.tx_plan.specs.Changes.{HasCommitAt}
 use Rattle.tx_plan.specs.cases.Commit.{CommitsLock}
 use Rattle.tx_plan.specs.cases.ResolveLock.{ResolvesLock}
@@ -18,7 +18,8 @@ use Rattle.tx_plan.specs.Answers.{leaves_on}
 use Rattle.tx_plan.specs.declared.body.Body.TheVariants as asked
 
 -- a refusal changes nothing
-pub refused_commit : (cells : Cells) (b : Commit) (a : Answer) → IsRefusal a → cells ≡ leaves_on cells (asked.Commit b) a
+pub refused_commit : (cells : Cells) (b : Commit) (a : Answer) → IsRefusal a
+    → cells ≡ leaves_on cells (asked.Commit b) a
 refused_commit cells b (WriteConflict start commit) is = refl
 refused_commit cells b (CommitTsExpired min) is = refl
 refused_commit cells b _ is = absurd is
@@ -34,8 +35,8 @@ pub resolves : (write : Writes) (start c : ℕ) (lock : Lock) (f : Fate) (a : An
     → CommitsLock write start c lock Resolved a → ResolvesLock write start lock f a
 resolves write start c lock f a e commits = subst (λ (g : Fate). ResolvesLock write start lock g a) (sym e) commits
 
-module _ (cells : Cells) (start c : ℕ) (head : LockHead) (own : HasOwnHead cells.lock start head) (may :
-    MayCommitAt cells.write start c own.lock) where
+module _ (cells : Cells) (start c : ℕ) (head : LockHead) (own : HasOwnHead cells.lock start head)
+    (may : MayCommitAt cells.write start c own.lock) where
   -- where nothing refuses it, it is done
   pub not_refused : (done : Answer) → CommitsLock cells.write start c own.lock done done
   not_refused done = inr (λ below. omega (arith, below, may.upto), inr (may.unconflicted, refl))

@@ -12,7 +12,8 @@ use Rattle.tx_plan.specs.Views.{HasOwnHead}
 abbrev pub SeesOwn : Option Lock → ℕ → Option LockHead → Type 0
 SeesOwn found t own = MatchOption own ((lock : Lock) → OwnLock found t lock → ⊥) (λ head. HasOwnHead found t head)
 
-none_own : (found : Option Lock) (t : ℕ) → ((lock : Lock) → OwnLock found t lock → ⊥) → found ≡ cond (is_own found t) None found
+none_own : (found : Option Lock) (t : ℕ) → ((lock : Lock) → OwnLock found t lock → ⊥)
+    → found ≡ cond (is_own found t) None found
 none_own None t none = refl
 none_own (Some lock) t none =
     elim (cases_Bool (lock.start == t)) [

@@ -10,9 +10,9 @@ pub mod Changes
 pub mod Walks
 pub mod Views
 pub mod Sound
-pub mod Committing
+pub mod LockCommit
 pub mod Refusals
-pub mod Locking
+pub mod FreeKeys
 pub mod Whole
-pub mod Collecting
-pub mod Making
+pub mod Collection
+pub mod RealChanges

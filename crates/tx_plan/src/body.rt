@@ -1,6 +1,6 @@
 //! What is asked of a region: one struct a command, and `Body`, which is any of them.
 ghost use Rattle.std.specs.Prelude.{◌≡◌, IfOk, IfErr};
-ghost use Rattle.tx_plan.specs.Committing.{commit_in};
+ghost use Rattle.tx_plan.specs.LockCommit.{commit_in};
 
 use crate::boxed::Boxed;
 use crate::lists::Starts;

@@ -3,7 +3,7 @@
 ghost use Rattle.std.specs.Prelude.{◌≡◌, ◌≢◌, ◌↔◌, ℕ, ◌<◌, List, length, Some, true, MatchOption};
 ghost use Rattle.tx_plan.specs.Cells.{Writes};
 ghost use Rattle.tx_plan.specs.cases.Collect.{keeps};
-ghost use Rattle.tx_plan.specs.Collecting.{NoneUpto, IsNext, DroppedOn, long_among, past};
+ghost use Rattle.tx_plan.specs.Collection.{NoneUpto, IsNext, DroppedOn, long_among, past};
 
 use tx_types::Ts;
 

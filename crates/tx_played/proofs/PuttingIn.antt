@@ -102,7 +102,8 @@ versions_plain key =
 
 -- ---- a script with lines put in
 
-pub put_in-append : (keys : List Key) (xs ys : List (List ℕ)) → put_in keys (xs ++ ys) ≡ put_in keys xs ++ put_in keys ys
+pub put_in-append : (keys : List Key) (xs ys : List (List ℕ))
+    → put_in keys (xs ++ ys) ≡ put_in keys xs ++ put_in keys ys
 put_in-append keys [] ys = refl
 put_in-append keys (x ∷ xs) ys = ap (λ ls. x ∷ ls) (ap (λ ls. behind keys x ++ ls) (put_in-append keys xs ys)
     ∙ sym (append_assoc (behind keys x) (put_in keys xs) (put_in keys ys)))

@@ -17,19 +17,17 @@ use Rattle.tx_core.specs.Histories.{last}
 use Rattle.tx_transaction.specs.declared.state.Response.{Response}
 use Rattle.tx_transaction.specs.declared.state.Response.TheVariants as response
 use Rattle.tx_transaction.specs.Buffers.{Entries, inserted, touched, put_over, buffered, locked, is_full}
-use Rattle.tx_transaction.specs.Sessions.{SessionState, is_declared, has_primary, exceeds, can_draw, can_commit, can_abort, finish_of, notes_one, due_prewrite, due_commit, due_abort, with_passed}
+use Rattle.tx_transaction.specs.Sessions.{SessionState, is_declared, exceeds, can_draw, finish_of, notes_one, with_passed}
 use Rattle.tx_types.specs.declared.mutation.Mutation.TheVariants as mutation
-use Rattle.tx_transaction.specs.declared.state.Phase.TheVariants as phase
 use Rattle.tx_transaction.specs.declared.state.Terms.{Terms}
-use Rattle.tx_client.specs.Walks.{Walk, asks, grows, ends, due_walk, get_walk, scan_walk, heartbeat_walk}
+use Rattle.tx_client.specs.Walks.{Walk, asks, grows, ends}
 use Rattle.tx_client.specs.declared.resolved.Status.{Status}
 use Rattle.tx_client.specs.Statuses.{lies_above}
-use Rattle.tx_resolve.specs.Reading.{read_walk}
-use Rattle.tx_resolve.specs.Collecting.{gc_walk}
+use Rattle.tx_resolve.specs.BlockedReads.{read_walk}
+use Rattle.tx_resolve.specs.Collection.{gc_walk}
 use Rattle.tx_steps.specs.declared.delivery.Delivery.{Delivery}
 use Rattle.tx_steps.specs.declared.delivery.Delivery.TheVariants as deliveries
 use Rattle.tx_steps.specs.declared.call.Call.{Call}
-use Rattle.tx_steps.specs.declared.call.Call.TheVariants as call
 use Rattle.tx_steps.specs.declared.op.Op.{Op}
 use Rattle.tx_steps.specs.declared.op.Op.TheVariants as op
 use Rattle.tx_steps.specs.declared.step.Step.{Step}
@@ -40,9 +38,10 @@ use Rattle.tx_steps.specs.Lines.{data_said, step_in, bounds_in}
 use Rattle.tx_reply.specs.declared.reply.ScriptReply.{ScriptReply}
 use Rattle.tx_reply.specs.declared.reply.ScriptReply.TheVariants as reply
 use Rattle.tx_network.specs.Networks.{taken, holding, takes_memory, may_go}
-use Rattle.tx_edits.specs.Edits.{Edit, is_refused, later_of, grown, changes, puts, inserts, inserts_by, deletes, locks, is_value}
-use Rattle.tx_edits.specs.Edits as edit
-use Rattle.tx_engine.specs.Semantics.{EngineState, Transition, goes, inquires, shows, stops, calls, at_network, began, drew, placed, gone, with_session, read_by, said_by, answers, asked, sent, runs, runs_to, first_free, live_at, is_too_many, edited, edits, sends, sends_by, delivered_by, delivers, finishes_by, leaves, begins_at, in_session, turn, learns, learnt, waits, resolves_by, collected_as, ticked}
+use Rattle.tx_ops.specs.Edits.{Edit, is_refused, later_of, grown, changes, puts, inserts, inserts_by, deletes, locks, is_value}
+use Rattle.tx_ops.specs.Edits as edit
+use Rattle.tx_ops.specs.Calls.{Said, call_walk}
+use Rattle.tx_engine.specs.Semantics.{EngineState, Transition, goes, inquires, shows, stops, calls, at_network, began, drew, placed, gone, with_session, answers, asked, sent, runs, came, first_free, live_at, is_too_many, edited, edits, sends, sends_by, delivered_by, delivers, finishes_by, leaves, begins_at, in_session, turn, learns, learnt, waits, resolves_by, collected_as, ticked}
 use Rattle.tx_engine.specs.Plays.{Leads}
 use Rattle.tx_script.specs.Play.{step_turn, said_turn, line_turn}
 
@@ -125,11 +124,9 @@ module _ (bounds : List Key) (Goes Also : EngineState → ScriptReply → List B
       (λ c next left. runs bounds delivery left next (more c) on)
       (λ c next. runs_carry delivery next (more c) on x)
 
-  runs_to_carry : {R : Type 0} (say : R → ScriptReply) (k : ℕ) (delivery : Delivery Text) (engine : EngineState)
-      (w : Walk (SessionState × R)) → Carries (λ refused. runs_to bounds say k delivery refused engine w)
-  runs_to_carry say k delivery engine w = runs_carry delivery engine w
-      (λ x next left. goes (with_session next k x.0) (say x.1) left)
-      (λ x next. says (with_session next k x.0) (say x.1))
+  came_carries : (k : ℕ) (t : SessionState) (said : Said) (next : EngineState) → Carries (came k t said next)
+  came_carries k t (Ok said) next = says (with_session next k t) said
+  came_carries k t (Err c) next = stopped c
 
   module _ (engine : EngineState) where
     module _ (k : ℕ) (s : SessionState) where
@@ -202,33 +199,8 @@ module _ (bounds : List Key) (Goes Also : EngineState → ScriptReply → List B
 
       sends_by_carry : (what : Call Text) (delivery : Delivery Text)
           → Carries (λ refused. sends_by refused engine k s bounds what delivery)
-      sends_by_carry (call.Get key) delivery = either (not (is_key key)) (λ left. goes engine reply.KeyLength left)
-          (λ refused. calls refused engine (λ left. runs_to bounds read_by k delivery left engine (get_walk s key)))
-          (says engine reply.KeyLength)
-          (calls_carry engine (λ left. runs_to bounds read_by k delivery left engine (get_walk s key))
-          (runs_to_carry read_by k delivery engine (get_walk s key)))
-      sends_by_carry (call.Scan from to limit) delivery = either (not (is_key from && is_key to))
-          (λ left. goes engine reply.KeyLength left)
-          (λ refused. calls refused engine
-          (λ left. runs_to bounds read_by k delivery left engine (scan_walk s bounds from to limit)))
-          (says engine reply.KeyLength)
-          (calls_carry engine (λ left. runs_to bounds read_by k delivery left engine (scan_walk s bounds from to limit))
-          (runs_to_carry read_by k delivery engine (scan_walk s bounds from to limit)))
-      sends_by_carry call.Prewrite delivery = either (is_declared s)
-          (λ left. runs_to bounds said_by k delivery left engine (due_walk s phase.Prewrite (due_prewrite s)))
-          (λ left. stops cause.Order)
-          (runs_to_carry said_by k delivery engine (due_walk s phase.Prewrite (due_prewrite s))) (stopped cause.Order)
-      sends_by_carry call.Commit delivery = either (can_commit s)
-          (λ left. runs_to bounds said_by k delivery left engine (due_walk s phase.Commit (due_commit s)))
-          (λ left. stops cause.Order)
-          (runs_to_carry said_by k delivery engine (due_walk s phase.Commit (due_commit s))) (stopped cause.Order)
-      sends_by_carry call.Abort delivery = either (can_abort s)
-          (λ left. runs_to bounds said_by k delivery left engine (due_walk s phase.Abort (due_abort s)))
-          (λ left. stops cause.Order)
-          (runs_to_carry said_by k delivery engine (due_walk s phase.Abort (due_abort s))) (stopped cause.Order)
-      sends_by_carry (call.Heartbeat ttl) delivery = either (has_primary s)
-          (λ left. runs_to bounds said_by k delivery left engine (heartbeat_walk s ttl)) (λ left. stops cause.Order)
-          (runs_to_carry said_by k delivery engine (heartbeat_walk s ttl)) (stopped cause.Order)
+      sends_by_carry what delivery = runs_carry delivery engine (call_walk bounds s what)
+          (λ x next left. came k x.0 x.1 next left) (λ x next. came_carries k x.0 x.1 next)
 
       sends_carry : (what : Call Text) (delivery : Delivery Text)
           → Carries (λ refused. sends refused engine k s bounds what delivery)

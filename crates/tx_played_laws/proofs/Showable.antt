@@ -55,7 +55,8 @@ said_utf8 key is =
 
 byte_short : (x : ℕ) → length (escape_byte x) ≤ 6
 unfolding escape_byte
-byte_short x = by (nat_lt 0 (escape_letter x)) (nat_lt x 32) (escape_letter x) (digit_char (x / 16)) (digit_char (x % 16))
+byte_short x = by (nat_lt 0 (escape_letter x)) (nat_lt x 32) (escape_letter x) (digit_char (x / 16))
+    (digit_char (x % 16))
   where
     by : (a b : Bool) (l m n : ℕ)
         → length (cond a (92 ∷ l ∷ []) (cond b (92 ∷ 117 ∷ 48 ∷ 48 ∷ m ∷ n ∷ []) (x ∷ []))) ≤ 6

@@ -21,7 +21,7 @@ use Rattle.tx_steps.specs.Lines.{data_said, step_in, bounds_in}
 use Rattle.tx_reply.specs.declared.reply.ScriptReply.{ScriptReply}
 use Rattle.tx_reply.specs.declared.reply.ScriptReply.TheVariants as reply
 use Rattle.tx_reply.specs.Replies.{reply_words}
-use Rattle.tx_edits.specs.Edits.{is_refused, later_of}
+use Rattle.tx_ops.specs.Edits.{is_refused, later_of}
 use Rattle.tx_engine.specs.Semantics.{EngineState, Transition, goes, inquires, shows, stops, calls, inspects, opening, turn}
 use Rattle.tx_engine.specs.Plays.{Leads}
 use Rattle.tx_script.specs.Play.{step_turn, value_turn, said_turn, line_turn, Played, before, ending, faulted, Plays, IsPlay}

@@ -27,10 +27,10 @@ use Rattle.tx_client.specs.declared.resolved.Status.{Status}
 use Rattle.tx_client.specs.declared.resolved.Status.TheVariants as status
 use Rattle.tx_client.specs.declared.resolved.WaitCause.TheVariants as cause
 use Rattle.tx_client.specs.Walks.{Walk, then_walk, due_walk, heartbeat_walk, get_by, get_walk, lesser, greater, part_by, part_walk, scan_after, scan_from, scan_walk}
-use Rattle.tx_resolve.specs.Resolving.{is_over, lets_pass, is_async, rests_by, standing_by, primary_by, settle_walk, other_by, further, others_walk, after_forced, forced_walk, after_others, after_primary, resolve_walk}
-use Rattle.tx_resolve.specs.Reading.{read_walk}
+use Rattle.tx_resolve.specs.Resolution.{is_over, lets_pass, is_async, rests_by, standing_by, primary_by, settle_walk, other_by, further, others_walk, after_forced, forced_walk, after_others, after_primary, resolve_walk}
+use Rattle.tx_resolve.specs.BlockedReads.{read_walk}
 use Rattle.tx_resolve.specs.declared.collector.Counts.{Counts}
-use Rattle.tx_resolve.specs.Collecting.{on_ok, in_regions, listed_by, raise_walk, locks_walk, clear_walk, collect_walk, raises_walk, clears_walk, collects_walk, gc_walk}
+use Rattle.tx_resolve.specs.Collection.{on_ok, in_regions, listed_by, raise_walk, locks_walk, clear_walk, collect_walk, raises_walk, clears_walk, collects_walk, gc_walk}
 use Rattle.tx_progress.specs.Requests.{AtMost, AnyResponse, Lists}
 use Rattle.tx_progress.proofs.Counting.{at_most, few_then}
 

@@ -27,9 +27,9 @@ use Rattle.tx_client.specs.declared.resolved.WaitCause.TheVariants as cause
 use Rattle.tx_client.specs.Facts.{WasAnswered}
 use Rattle.tx_client.specs.Learns.{response_of}
 use Rattle.tx_client.specs.Walks.{Walk, then_walk, Sends}
-use Rattle.tx_resolve.specs.Resolving.{caller_of, time_of, is_over, lets_pass, check_of, other_of, settle_of, is_async, rests_by, standing_by, primary_by, other_by, status_of, settled_by, settle_walk, further, others_walk, after_forced, forced_walk, after_others, after_primary, resolve_walk}
-use Rattle.tx_resolve.specs.Reading.{read_walk}
-use Rattle.tx_progress.specs.Settling.{IsServed, AllServed, IsSettled, LivesOn, SettlesUnlessAlive, Settles}
+use Rattle.tx_resolve.specs.Resolution.{caller_of, time_of, is_over, lets_pass, check_of, other_of, settle_of, is_async, rests_by, standing_by, primary_by, other_by, status_of, settled_by, settle_walk, further, others_walk, after_forced, forced_walk, after_others, after_primary, resolve_walk}
+use Rattle.tx_resolve.specs.BlockedReads.{read_walk}
+use Rattle.tx_progress.specs.Settlement.{IsServed, AllServed, IsSettled, LivesOn, SettlesUnlessAlive, Settles}
 use Rattle.tx_progress.proofs.Coming.{Came, AnswersAsked, came, upto_on, Below, resolves, others_told, IsChecked, Checks, checks_told}
 
 -- what this walk comes to where its requests are served

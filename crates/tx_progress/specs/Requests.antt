@@ -16,8 +16,8 @@ AtMost Comes n (asks body more) = (0 < n) × ((c : Response) → Comes c → AtM
 abbrev pub AnyResponse : Response → Type 0
 AnyResponse c = Unit {0}
 
--- A region lists at most so many locks, and an async lock that is told at most so many other keys of
--- its transaction.
+-- A region lists at most so many locks, and an async lock that is told at most so many other keys
+-- of its transaction.
 abbrev pub Lists : (locks others : ℕ) → Response → Type 0
 Lists locks others (response.Answered (answer.Locks infos)) = length infos ≤ locks
 Lists locks others (response.Answered (answer.Locked info)) = info.mode ≡ Async → length info.secondaries ≤ others

@@ -3,7 +3,7 @@
 #![tactic(auto)]
 
 mod requests;
-mod settling;
+mod settlement;
 
 pub use requests::requests_are_few;
-pub use settling::expired_locks_settle;
+pub use settlement::expired_locks_settle;

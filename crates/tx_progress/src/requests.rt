@@ -10,8 +10,8 @@ ghost use Rattle.tx_transaction.specs.declared.state.Due.{Due};
 ghost use Rattle.tx_transaction.specs.declared.state.Phase.{Phase};
 ghost use Rattle.tx_transaction.specs.Sessions.{SessionState};
 ghost use Rattle.tx_client.specs.Walks.{due_walk, heartbeat_walk, get_walk, scan_walk};
-ghost use Rattle.tx_resolve.specs.Reading.{read_walk};
-ghost use Rattle.tx_resolve.specs.Collecting.{gc_walk};
+ghost use Rattle.tx_resolve.specs.BlockedReads.{read_walk};
+ghost use Rattle.tx_resolve.specs.Collection.{gc_walk};
 ghost use Rattle.tx_progress.specs.Requests.{AtMost, AnyResponse, Lists};
 
 /// Each call sends at most so many requests: prewrite, commit, abort, a heartbeat and a get one; a

@@ -1,1 +1,4 @@
-mod Seeing
+-- Seats that only see what others did, and what a read at a timestamp finds.
+pub mod Seeing
+-- Up to where the keys from one on lie in its region.
+mod Parts

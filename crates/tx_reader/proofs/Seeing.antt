@@ -1,13 +1,17 @@
 -- Seats that only see what others did, and what a read at a timestamp finds.
-use Rattle.std.proofs.Common.{◌≡◌, inl, inr, ℕ, true, List, [], ◌∷◌, ◌++◌, Contains, Some, None, Result, Ok, Err, IfOk, OnOk, OnErr, refl, sym, ap, subst, ◌∙◌}
+use Rattle.std.proofs.Common.{◌≡◌, inl, inr, ℕ, IsTrue, true, List, [], ◌∷◌, ◌++◌, Contains, Some, None, Result, Ok, Err, IfOk, OnOk, OnErr, refl, sym, ap, subst, ◌∙◌}
 use Rattle.std.proofs.lemmas.List.Elements.{Contains-push, Contains-push_cases}
 use Rattle.tx_types.specs.declared.key.Key.{Key}
 use Rattle.tx_types.specs.declared.lock.LockInfo.{LockInfo}
+use Rattle.tx_types.specs.Keys.{is_between}
 use Rattle.tx_plan.specs.declared.body.Get.{Get}
+use Rattle.tx_plan.specs.declared.body.Body.{Body}
 use Rattle.tx_plan.specs.declared.body.Body.TheVariants as body
 use Rattle.tx_plan.specs.declared.answer.Answer.{Answer}
 use Rattle.tx_plan.specs.declared.answer.Answer.TheVariants as answer
+use Rattle.tx_machine.specs.Machine.{SeesRows, table_of}
 use Rattle.tx_core.specs.Histories.{History, Begins}
+use Rattle.tx_core.specs.Shadow.{shadow}
 use Rattle.tx_core.specs.Worlds.{IsWorldRun}
 use Rattle.tx_core.specs.Recording.{Extends}
 use Rattle.tx_core.specs.Allowed.{MayPass, AllowsRead}
@@ -16,17 +20,21 @@ use Rattle.tx_core.specs.Laws.{WasToldOf}
 use Rattle.tx_core.proofs.seats.Beginnings.{extends_all, extends_more, extends_begins}
 use Rattle.tx_journal.specs.Known.{Known, HasSeen}
 use Rattle.tx_journal.specs.Replies.{Asked}
-use Rattle.tx_journal.specs.Senders.{Reached}
+use Rattle.tx_core.proofs.seats.Staying.{among_on}
+use Rattle.tx_journal.specs.Senders.{IsHeld, Reached}
 use Rattle.tx_client.specs.Learns.{response_of, Learns}
 use Rattle.tx_client.specs.Walks.{Walk, asks, grows, ends, Sends}
 use Rattle.tx_client.specs.Facts.{WasAnswered}
 use Rattle.tx_client.specs.declared.resolved.Status.{Status}
 use Rattle.tx_client.specs.Statuses.{Ends, lies_above}
-use Rattle.tx_client.proofs.Calling.{may_pass}
+use Rattle.tx_client.proofs.Calling.{held_at, may_pass}
 use Rattle.tx_client.proofs.Kept.{read_on}
+use Rattle.tx_laws.specs.Scans.{scan_at}
 use Rattle.tx_laws.specs.Told.{Says}
-use Rattle.tx_laws.proofs.Standing.{answer_seen}
-use Rattle.tx_reader.specs.Readers.{OnlySees, ReadsAt}
+use Rattle.tx_laws.proofs.Standing.{answer_seen, rows_seen}
+use Rattle.tx_reader.specs.declared.read.Read.{Read}
+use Rattle.tx_reader.specs.declared.read.Read.TheVariants.{Key as OfKey, Part}
+use Rattle.tx_reader.specs.Readers.{FindsAt, IsOfOneRegion, IsReadOf, OnlySees, ReadsAt}
 
 pub sees_itself : (k : Known) → OnlySees k k
 sees_itself k = record { number = refl; ticks = refl; others = extends_all k.seat k.events }
@@ -81,7 +89,7 @@ module _ {S : Type 0} (sends : S → Asked → Reached → S → Type 0) (bounds
       sent_runs (more (response_of reached)) now new mid to r (learns_run bounds k now reached run learns) rest
 
 -- a lock that an answer names was told of
-pub locked_told : (h : History) (b : Get) (info : LockInfo) → WasAnswered h (body.Get b) (answer.KeyIsLocked info)
+pub locked_told : (h : History) (b : Body) (info : LockInfo) → WasAnswered h b (answer.KeyIsLocked info)
     → WasToldOf h info
 locked_told h b info was = record {
   by = was.by;
@@ -146,9 +154,47 @@ noted_either bounds k at passed all l t what (Ok x) is begins ended above ok sam
 noted_either bounds k at passed all l t what (Err e) is begins ended above ok same =
     subst (λ (xs : List ℕ). Keeps bounds k at xs) (sym same) is
 
--- what an answer to the read of a key finds, if there is one
-pub if_found_so : {E : Type 0} (bounds : List Key) (h : History) (at : ℕ) (key : Key) → IsWorldRun bounds h
-    → (r : Result Answer E)
-    → IfOk r (λ a. (b : Get) × (b.key ≡ key) × (b.at ≡ at) × WasAnswered h (body.Get b) a) → IfOk r (ReadsAt h at key)
-if_found_so bounds h at key run (Ok a) (b, same, time, was) = found_so bounds h run b at key same time a was
-if_found_so bounds h at key run (Err e) told = tt
+-- ---- reads of a key, and of a part of a range
+
+-- one region holds what is read
+pub held_of : (bounds : List Key) (read : Read) → IsOfOneRegion bounds read → (at : ℕ) (b : Body) → IsReadOf read at b
+    → IsHeld bounds b
+held_of bounds (OfKey key) one at (body.Get b) is = held_at bounds b.key
+held_of bounds (OfKey key) one at b is = absurd is
+held_of bounds (Part from to limit) one at (body.Scan b) (low, high, most, time) =
+    let (n, le, there) = held_at bounds from in (
+      n,
+      le,
+      λ k inside. one k
+          (subst (λ y. IsTrue (is_between from y k)) high (subst (λ x. IsTrue (is_between x b.to k)) low inside))
+          ∙ there,
+    )
+held_of bounds (Part from to limit) one at b is = absurd is
+
+-- what an answer to a read finds is what the machine sees
+pub found_by : (bounds : List Key) (h : History) → IsWorldRun bounds h → (at : ℕ) (read : Read) (b : Body)
+    → IsReadOf read at b → (a : Answer) → WasAnswered h b a → FindsAt bounds h at read a
+found_by bounds h run at (OfKey key) (body.Get b) is a was = found_so bounds h run b at key is.0 is.1 a was
+found_by bounds h run at (OfKey key) b is a was = absurd is
+found_by bounds h run at (Part from to limit) (body.Scan b) (low, high, most, time) (answer.Rows rows) was =
+    λ later begins now.
+    subst (λ n. SeesRows (table_of (shadow later)).row (scan_at n from to limit rows)) time
+    (subst (λ n. SeesRows (table_of (shadow later)).row (scan_at b.at from to n rows)) most
+    (subst (λ k. SeesRows (table_of (shadow later)).row (scan_at b.at from k b.limit rows)) high
+    (subst (λ k. SeesRows (table_of (shadow later)).row (scan_at b.at k b.to b.limit rows)) low
+    (rows_seen bounds later now was.by (among_on h later begins _ was.among) b rows was.asked was.told))))
+found_by bounds h run at (Part from to limit) (body.Scan b) is a was = tt
+found_by bounds h run at (Part from to limit) b is a was = absurd is
+
+-- a lock in the way finds nothing
+pub locked_finds : (bounds : List Key) (h : History) (at : ℕ) (read : Read) (info : LockInfo)
+    → FindsAt bounds h at read (answer.KeyIsLocked info)
+locked_finds bounds h at (OfKey key) info = tt
+locked_finds bounds h at (Part from to limit) info = tt
+
+-- what the last look found, if it was answered
+pub if_found_by : {E : Type 0} (bounds : List Key) (h : History) (at : ℕ) (read : Read) → IsWorldRun bounds h
+    → (r : Result Answer E) → IfOk r (λ a. (b : Body) × IsReadOf read at b × WasAnswered h b a)
+    → IfOk r (FindsAt bounds h at read)
+if_found_by bounds h at read run (Ok a) (b, is, was) = found_by bounds h run at read b is a was
+if_found_by bounds h at read run (Err e) told = tt

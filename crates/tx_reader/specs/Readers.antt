@@ -1,13 +1,20 @@
 -- Who reads at a timestamp, and what its reads find.
-use Rattle.std.specs.Prelude.{◌≡◌, ℕ, Some, None}
+use Rattle.std.specs.Prelude.{◌≡◌, ◌&&◌, ℕ, cond, List, [], ◌∷◌, Some, None, IsTrue}
 use Rattle.tx_types.specs.declared.key.Key.{Key}
+use Rattle.tx_types.specs.Keys.{key_lt, is_between}
+use Rattle.tx_plan.specs.declared.body.Body.{Body}
+use Rattle.tx_plan.specs.declared.body.Body.TheVariants as body
 use Rattle.tx_plan.specs.declared.answer.Answer.{Answer}
 use Rattle.tx_plan.specs.declared.answer.Answer.TheVariants as answer
-use Rattle.tx_machine.specs.Machine.{Sees, table_of}
-use Rattle.tx_core.specs.Histories.{History}
+use Rattle.tx_machine.specs.Machine.{Sees, SeesRows, table_of}
+use Rattle.tx_core.specs.Histories.{History, Begins}
 use Rattle.tx_core.specs.Recording.{Extends}
 use Rattle.tx_core.specs.Shadow.{shadow}
+use Rattle.tx_core.specs.Worlds.{IsWorldRun, route}
 use Rattle.tx_journal.specs.Known.{Known}
+use Rattle.tx_laws.specs.Scans.{scan_at}
+use Rattle.tx_reader.specs.declared.read.Read.{Read}
+use Rattle.tx_reader.specs.declared.read.Read.TheVariants.{Key as OfKey, Part}
 
 -- a reader: what its seat knows, and the timestamp at which it reads
 pub record Reading : Type 0 where
@@ -26,3 +33,38 @@ abbrev pub ReadsAt : History → ℕ → Key → Answer → Type 0
 ReadsAt h at key (answer.Found v) = Sees (table_of (shadow h)).row key at (Some v)
 ReadsAt h at key answer.Nothing = Sees (table_of (shadow h)).row key at None
 ReadsAt h at key _ = Unit {0}
+
+-- an answer to the read of a part of a range, where it has rows: in each world run that begins with
+-- what is known they are what the one-step machine sees there
+abbrev pub ScansAt : List Key → History → ℕ → Key → Key → ℕ → Answer → Type 0
+ScansAt bounds known at from to limit (answer.Rows rows) =
+    (h : History) → Begins known h → IsWorldRun bounds h
+    → SeesRows (table_of (shadow h)).row (scan_at at from to limit rows)
+ScansAt bounds known at from to limit _ = Unit {0}
+
+-- ---- requests
+
+-- the keys from one up to but not including another lie in one region
+abbrev pub AreTogether : List Key → Key → Key → Type 0
+AreTogether bounds from to = (k : Key) → IsTrue (is_between from to k) → route bounds k ≡ route bounds from
+
+-- where the region of a key ends: at the least bound above it, where that lies below a key
+abbrev pub part_end : List Key → Key → Key → Key
+part_end [] from to = to
+part_end (bound ∷ bounds) from to = part_end bounds from (cond (key_lt from bound && key_lt bound to) bound to)
+
+-- one region has what is read
+abbrev pub IsOfOneRegion : List Key → Read → Type 0
+IsOfOneRegion bounds (OfKey key) = Unit {0}
+IsOfOneRegion bounds (Part from to limit) = AreTogether bounds from to
+
+-- what an answer to a read finds
+abbrev pub FindsAt : List Key → History → ℕ → Read → Answer → Type 0
+FindsAt bounds known at (OfKey key) a = ReadsAt known at key a
+FindsAt bounds known at (Part from to limit) a = ScansAt bounds known at from to limit a
+
+-- a request asks for this, at this timestamp
+abbrev pub IsReadOf : Read → ℕ → Body → Type 0
+IsReadOf (OfKey key) at (body.Get b) = (b.key ≡ key) × (b.at ≡ at)
+IsReadOf (Part from to limit) at (body.Scan b) = (b.from ≡ from) × (b.to ≡ to) × (b.limit ≡ limit) × (b.at ≡ at)
+IsReadOf read at _ = ⊥

@@ -1,20 +1,21 @@
 //! Who reads at a timestamp.
 ghost use Rattle.std.specs.Prelude.{◌≡◌, IfOk};
-ghost use Rattle.tx_plan.specs.declared.body.Get.{Get as Asked};
-ghost use Rattle.tx_plan.specs.declared.body.Body.TheVariants as body;
-ghost use Rattle.tx_core.specs.Allowed.{AllowsRead};
+ghost use Rattle.tx_plan.specs.declared.body.Body.{Body as Sent};
+ghost use Rattle.tx_core.specs.Allowed.{Allowed};
 ghost use Rattle.tx_core.specs.Histories.{Begins};
 ghost use Rattle.tx_core.specs.Laws.{WasToldOf};
 ghost use Rattle.tx_core.specs.Worlds.{IsWorldRun};
 ghost use Rattle.tx_journal.specs.Senders.{IsSender};
 ghost use Rattle.tx_client.specs.Facts.{WasAnswered};
-ghost use Rattle.tx_reader.specs.Readers.{OnlySees, ReadsAt};
+ghost use Rattle.tx_reader.specs.Readers.{AreTogether, IsOfOneRegion, IsReadOf, FindsAt, OnlySees, ReadsAt, ScansAt};
 
+use crate::read::Read;
 use std::alloc::Global;
 use std::marker::Model;
 use tx_client::{Miss, Resolved, Response, Status, ask};
 use tx_core::{Answer, Body, Get, Starts};
 use tx_journal::{JournalId, Reply, Request, Seat, Sender};
+use tx_plan::{Boxed, Scan};
 use tx_resolve::resolve;
 use tx_types::{Fault, Key, LockInfo, Ts};
 
@@ -25,6 +26,7 @@ const LOCKS: u32 = 1_024;
 /// nothing. Contracts see what the seat knows, and the timestamp.
 #[derive(Drop)]
 pub struct Reader<J: JournalId> {
+    alloc: Global,
     seat: Seat<J>,
     at: Ts,
     /// The transactions whose locks its reads pass by.
@@ -51,6 +53,7 @@ impl<J: JournalId> Reader<J> {
         // For proofs: what the seat has seen is a world run.
         let _number = seat.number();
         Reader {
+            alloc,
             seat,
             at,
             passed: Starts::new(alloc),
@@ -62,6 +65,7 @@ impl<J: JournalId> Reader<J> {
         ensures { result ≡ self.seat }
     {
         let Reader {
+            alloc: _,
             seat,
             at: _,
             passed: _,
@@ -69,34 +73,54 @@ impl<J: JournalId> Reader<J> {
         seat
     }
 
-    // The read of a key.
-    fn read_of(&self, key: &Key) -> Result<Get, Fault>
-        ensures { IfOk result (λ b. (b.key ≡ key.now) × (b.at ≡ self.now.at) × AllowsRead self.now.seat.events b.at b.bypass) }
+    /// For proofs: what its seat has seen is a world run. It does nothing when it runs.
+    pub fn know_run(&self)
+        ensures { IsWorldRun J.bounds self.now.seat.events }
     {
-        Ok(Get {
-            key: key.clone()?,
-            at: self.at,
-            bypass: self.passed.clone()?,
-        })
+        let _number = self.seat.number();
     }
 
-    // Sends the read of a key, once.
+    // The request of a read.
+    fn body_of(&self, read: &Read) -> Result<Body, Fault>
+        ensures { IfOk result (λ b. IsReadOf read.now self.now.at b × Allowed self.now.seat.events b) }
+    {
+        let bypass = self.passed.clone()?;
+        match read {
+            Read::Key(key) => Ok(Body::Get(Get {
+                key: key.clone()?,
+                at: self.at,
+                bypass,
+            })),
+            Read::Part(from, to, limit) => {
+                let scan = Scan {
+                    from: from.clone()?,
+                    to: to.clone()?,
+                    at: self.at,
+                    limit: *limit,
+                    bypass,
+                };
+                Ok(Body::Scan(Boxed::new(self.alloc, scan)?))
+            }
+        }
+    }
+
+    // Sends a read, once.
     fn look<S: Sender<Request<J>, Reply<J>>>(
         &mut self,
-        key: &Key,
+        read: &Read,
         sender: &mut S,
     ) -> Result<Answer, Miss>
         requires way { IsSender J.bounds S.fits S.sends S.keys_between }
+        requires held { IsOfOneRegion J.bounds read.now }
         ensures at { self.new.at ≡ self.old.at }
         ensures seat { OnlySees self.old.seat self.new.seat }
         ensures run { IsWorldRun J.bounds self.new.seat.events }
-        ensures told { IfOk result (λ a. (b : Asked) × (b.key ≡ key.now) × (b.at ≡ self.old.at)
-            × WasAnswered self.new.seat.events (body.Get b) a) }
+        ensures told { IfOk result (λ a. (b : Sent) × IsReadOf read.now self.old.at b × WasAnswered self.new.seat.events b a) }
     {
-        let Ok(read) = self.read_of(key) else {
+        let Ok(body) = self.body_of(read) else {
             return Err(Miss::Fault);
         };
-        match ask(&mut self.seat, Body::Get(read), sender) {
+        match ask(&mut self.seat, body, sender) {
             Response::Lost => Err(Miss::Lost),
             Response::OutOfMemory => Err(Miss::Fault),
             Response::Answered(answer) => Ok(answer),
@@ -137,6 +161,32 @@ impl<J: JournalId> Reader<J> {
         Ok(!waits)
     }
 
+    // Sends a read, until no lock is in its way that it may pass by.
+    fn look_past<S: Sender<Request<J>, Reply<J>>>(
+        &mut self,
+        read: &Read,
+        sender: &mut S,
+    ) -> Result<Answer, Miss>
+        requires way { IsSender J.bounds S.fits S.sends S.keys_between }
+        requires held { IsOfOneRegion J.bounds read.now }
+        ensures at { self.new.at ≡ self.old.at }
+        ensures seat { OnlySees self.old.seat self.new.seat }
+        ensures finds { IfOk result (FindsAt J.bounds self.new.seat.events self.old.at read.now) }
+    {
+        let now = self.seat.last();
+        for _ in 0..LOCKS {
+            match self.look(read, sender)? {
+                Answer::KeyIsLocked(info) => {
+                    if !self.pass(&info, now, sender)? {
+                        return Ok(Answer::KeyIsLocked(info));
+                    }
+                }
+                answer => return Ok(answer),
+            }
+        }
+        self.look(read, sender)
+    }
+
     /// Reads a key. A lock in the way is resolved, as at the last timestamp that was drawn;
     /// `KeyIsLocked` where it still stands there. It finds what the one-step machine sees.
     pub fn get<S: Sender<Request<J>, Reply<J>>>(
@@ -149,17 +199,31 @@ impl<J: JournalId> Reader<J> {
         ensures seat { OnlySees self.old.seat self.new.seat }
         ensures finds { IfOk result (ReadsAt self.new.seat.events self.old.at key.now) }
     {
-        let now = self.seat.last();
-        for _ in 0..LOCKS {
-            match self.look(key, sender)? {
-                Answer::KeyIsLocked(info) => {
-                    if !self.pass(&info, now, sender)? {
-                        return Ok(Answer::KeyIsLocked(info));
-                    }
-                }
-                answer => return Ok(answer),
-            }
-        }
-        self.look(key, sender)
+        let Ok(key) = key.clone() else {
+            return Err(Miss::Fault);
+        };
+        self.look_past(&Read::Key(key), sender)
+    }
+
+    /// Reads the first `limit` rows from `from` up to but not including `to`, all keys of one
+    /// region: `end_of_part` tells how far that goes. Locks in the way are resolved as those of
+    /// `get` are. It finds what the one-step machine sees.
+    pub fn scan<S: Sender<Request<J>, Reply<J>>>(
+        &mut self,
+        from: &Key,
+        to: &Key,
+        limit: u32,
+        sender: &mut S,
+    ) -> Result<Answer, Miss>
+        requires way { IsSender J.bounds S.fits S.sends S.keys_between }
+        requires held { AreTogether J.bounds from.now to.now }
+        ensures at { self.new.at ≡ self.old.at }
+        ensures seat { OnlySees self.old.seat self.new.seat }
+        ensures finds { IfOk result (ScansAt J.bounds self.new.seat.events self.old.at from.now to.now limit) }
+    {
+        let (Ok(from), Ok(to)) = (from.clone(), to.clone()) else {
+            return Err(Miss::Fault);
+        };
+        self.look_past(&Read::Part(from, to, limit), sender)
     }
 }

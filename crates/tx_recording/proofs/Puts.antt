@@ -57,13 +57,19 @@ act_contains (Write w) xs v c = elim (Contains-push_cases [] w v c) [
 act_contains (Read span) xs v c = inl c
 
 -- what is left was there, or was put
-pub after_contains : (os : List Op) (k : ℕ) (xs : List ℕ) (v : ℕ) → Contains (after os k xs) v → Contains xs v ⊎ PutsIn os k v
+pub after_contains : (os : List Op) (k : ℕ) (xs : List ℕ) (v : ℕ) → Contains (after os k xs) v
+    → Contains xs v ⊎ PutsIn os k v
 after_contains [] k xs v c = inl c
 after_contains (o ∷ os) k xs v c = elim (cases_eq o.key k) [
-  | inl same ↦ elim (after_contains os k (act_on o.act xs) v (subst (λ q. Contains q v) (after_same o os k xs same) c)) [
-    | inl there ↦ elim (act_contains o.act xs v there) [ inl old ↦ inl old | inr put ↦ inr (puts_head o os k v same put) ]
-    | inr later ↦ inr (puts_more o os k v later)
-  ]
+  | inl same ↦ elim (after_contains os k (act_on o.act xs) v
+      (subst (λ q. Contains q v) (after_same o os k xs same) c)) [
+        | inl there ↦ elim (act_contains o.act xs v there) [
+          | inl old ↦ inl old
+          | inr put ↦
+              inr (puts_head o os k v same put)
+        ]
+        | inr later ↦ inr (puts_more o os k v later)
+      ]
   | inr other ↦ elim (after_contains os k xs v (subst (λ q. Contains q v) (after_other o os k xs other) c)) [
     | inl there ↦ inl there
     | inr later ↦ inr (puts_more o os k v later)
@@ -102,7 +108,11 @@ ends (o ∷ os) k = elim (ends os k) [
     | inl at ↦ elim (head_ends o.act) [
       | inl (v, put, last) ↦ inl (
         v,
-        (puts_head o os k v at put, λ xs. subst (λ q. IsLast q v) (sym (after_same o os k xs at ∙ same (act_on o.act xs))) (last xs)),
+        (
+          puts_head o os k v at put,
+          λ xs. subst (λ q. IsLast q v)
+              (sym (after_same o os k xs at ∙ same (act_on o.act xs))) (last xs),
+        ),
       )
       | inr (nothing, stays) ↦ inr (
         puts_head_nothing o os k none (λ v e p. nothing v p),

@@ -26,7 +26,8 @@ module _ (r : Recording) (orders : Orders) (x : Explanation) (e : Explains r ord
       elim (after_contains (ops_of r u) k base v (subst (λ q. Contains q v) (is ∙ left) c)) [
         | inr put ↦ (u, newest.0, put, upto)
         | inl old ↦ (
-            let (w, writer, put, before) = seen_put_below n k (x.start u) base v (omega (arith, lt, upto, above)) sees old in
+            let (w, writer, put, before) =
+            seen_put_below n k (x.start u) base v (omega (arith, lt, upto, above)) sees old in
             (w, writer, put, omega (arith, before, above, upto))
             )
       ]

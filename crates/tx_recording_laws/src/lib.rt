@@ -16,7 +16,8 @@ use tx_machine::runs_are_snapshots;
 
 /// The timestamps of a run of the machine explain each recording of it.
 pub fn runs_explain()
-    ensures { (r : Recording) (orders : Orders) (steps : List Step) (x : Explanation) (key : ℕ → Key) (value : List ℕ → Value)
+    ensures { (r : Recording) (orders : Orders) (steps : List Step) (x : Explanation) (key : ℕ → Key)
+        (value : List ℕ → Value)
         → IsRun steps → IsRecordingOf r orders x (table_of steps).row key value → Explains r orders x }
 {
     runs_are_snapshots();
@@ -24,7 +25,8 @@ pub fn runs_explain()
 
 /// What nothing explains is a recording of no run of the machine.
 pub fn unexplained_has_no_run()
-    ensures { (r : Recording) (orders : Orders) (steps : List Step) (x : Explanation) (key : ℕ → Key) (value : List ℕ → Value)
+    ensures { (r : Recording) (orders : Orders) (steps : List Step) (x : Explanation) (key : ℕ → Key)
+        (value : List ℕ → Value)
         → ((y : Explanation) → Explains r orders y → ⊥)
         → IsRun steps → IsRecordingOf r orders x (table_of steps).row key value → ⊥ }
 {

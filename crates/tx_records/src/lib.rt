@@ -3,12 +3,12 @@
 //! see records.
 #![tactic(auto)]
 
+mod asked_lock;
 mod derived;
 mod heads;
-mod putting;
 mod records;
 
+pub use asked_lock::{apart, lock_bytes};
 pub use derived::{commit_record, lock_with_min, lock_with_ttl, marked_record, rollback_record};
 pub use heads::{head_of, kind_of, lock_head_of, seen_in};
-pub use putting::{apart, lock_bytes};
 pub use records::{LockBytes, WriteBytes};

@@ -8,31 +8,48 @@ use Rattle.tx_core.specs.Histories.{History, left}
 use Rattle.tx_journal.specs.Known.{greatest_ts}
 use Rattle.tx_journal.specs.Replies.{Asked}
 use Rattle.tx_region.specs.Copies.{key_in, LooksLike, IsPlan}
-use Rattle.tx_region.specs.Planning.{Copied, PlanOf, AreOf, IsCopyFor, IsPlanFor}
+use Rattle.tx_region.specs.KeyPlans.{Copied, PlanOf, AreOf, IsCopyFor, IsPlanFor}
 use Rattle.tx_region.specs.declared.copy.KeyView.{KeyView}
 use Rattle.tx_region.specs.declared.copy.Loaded.{Loaded}
 use Rattle.tx_region.specs.declared.copy.RegionNumbers.{RegionNumbers}
 use Rattle.tx_region.proofs.Copies.{same_itself}
 
-module _ {S : Type 0} (told : S → History) (bytes : S → Key) (n : ℕ) (view : KeyView) (numbers : RegionNumbers) (taken : ℕ) (loaded : Loaded) where
+module _ {S : Type 0} (told : S → History) (bytes : S → Key) (n : ℕ) (view : KeyView) (numbers : RegionNumbers)
+    (taken : ℕ) (loaded : Loaded) where
   abbrev pub copied : S → Copied
   copied s = record { region = n; events = told s; key = bytes s; view = view; numbers = numbers; loaded = loaded }
 
   abbrev pub planned_of : Plan → S → PlanOf
   planned_of p s = record { region = n; events = told s; key = bytes s; loaded = loaded; planned = p }
 
-  pub low_of : (o : Option S) (q : Asked) → IfSome o (λ s. AreOf (told s) n numbers taken loaded) → IsSomeAnd (option_map copied o) (λ c. IsCopyFor q c) → (loaded.last ≤ greatest_ts) × (loaded.mark ≤ greatest_ts)
+  pub low_of : (o : Option S) (q : Asked) → IfSome o (λ s. AreOf (told s) n numbers taken loaded)
+      → IsSomeAnd (option_map copied o) (λ c. IsCopyFor q c) → (loaded.last ≤ greatest_ts) × (loaded.mark ≤ greatest_ts)
   low_of None q are copy = absurd copy
   low_of (Some s) q are copy = are.low
 
-  pub looks_of : (o : Option S) (q : Asked) → IsSomeAnd (option_map copied o) (λ c. IsCopyFor q c) → (r : Region) × LooksLike r q.body view numbers
+  pub looks_of : (o : Option S) (q : Asked) → IsSomeAnd (option_map copied o) (λ c. IsCopyFor q c)
+      → (r : Region) × LooksLike r q.body view numbers
   looks_of None q copy = absurd copy
-  looks_of (Some s) q copy = (left (told s) n, copy.looks (left (told s) n) (same_itself (key_in q.body) (left (told s) n)))
+  looks_of (Some s) q copy =
+      (left (told s) n, copy.looks (left (told s) n) (same_itself (key_in q.body) (left (told s) n)))
 
-  pub plan_of : (o : Option S) (q : Asked) (p : Plan) → IsSomeAnd (option_map copied o) (λ c. IsCopyFor q c) → ((r : Region) → LooksLike r q.body view numbers → IsPlan loaded.mark r loaded.last q.body p)
-      → IsSomeAnd (option_and_then (λ s. option_map (λ x. planned_of x s) (Some p)) o) (λ plan. IsPlanFor q plan × IsSomeAnd (option_map copied o) (λ c. (plan.region ≡ c.region) × (plan.events ≡ c.events)))
+  pub plan_of : (o : Option S) (q : Asked) (p : Plan) → IsSomeAnd (option_map copied o)
+      (λ c. IsCopyFor q c) → ((r : Region) → LooksLike r q.body view numbers
+      → IsPlan loaded.mark r loaded.last q.body p)
+      → IsSomeAnd (option_and_then (λ s. option_map (λ x. planned_of x s) (Some p)) o)
+      (λ plan. IsPlanFor q plan
+      × IsSomeAnd (option_map copied o) (λ c. (plan.region ≡ c.region) × (plan.events ≡ c.events)))
   plan_of None q p copy plans = absurd copy
-  plan_of (Some s) q p copy plans = (record { of_key = copy.of_key; its_key = copy.its_key; knows = copy.knows; is_mark = copy.is_mark; plans = λ region same. plans region (copy.looks region same) }, (refl, refl))
+  plan_of (Some s) q p copy plans = (
+    record {
+      of_key = copy.of_key;
+      its_key = copy.its_key;
+      knows = copy.knows;
+      is_mark = copy.is_mark;
+      plans = λ region same. plans region (copy.looks region same);
+    },
+    (refl, refl),
+  )
 
   -- the plan of a try
   abbrev pub plan_in : Option S → Option Plan → Option PlanOf
@@ -48,11 +65,16 @@ module _ {S : Type 0} (told : S → History) (bytes : S → Key) (n : ℕ) (view
     not_unplanned (Some s) None e is = is
     not_unplanned (Some s) (Some p) e is = absurd (cc (e))
 
-    pub plan_there : (o : Option S) (po : Option Plan) (s : S) (p : Plan) → o ≡ Some s → po ≡ Some p → IsSomeAnd (plan_in o po) P → P (planned_of p s)
-    plan_there o po s p e f is = subst (λ (x : Option S × Option Plan). IsSomeAnd (plan_in x.0 x.1) P) (λ i. (e i, f i)) is
+    pub plan_there : (o : Option S) (po : Option Plan) (s : S) (p : Plan) → o ≡ Some s → po ≡ Some p
+        → IsSomeAnd (plan_in o po) P → P (planned_of p s)
+    plan_there o po s p e f is =
+        subst (λ (x : Option S × Option Plan). IsSomeAnd (plan_in x.0 x.1) P) (λ i. (e i, f i)) is
 
-    pub if_plan : (o : Option S) (po : Option Plan) (s : S) (p : Plan) → o ≡ Some s → po ≡ Some p → P (planned_of p s) → IfSome (plan_in o po) P
-    if_plan o po s p e f is = subst (λ (x : Option S × Option Plan). IfSome (plan_in x.0 x.1) P) (λ i. (sym e i, sym f i)) is
+    pub if_plan : (o : Option S) (po : Option Plan) (s : S) (p : Plan) → o ≡ Some s → po ≡ Some p → P (planned_of p s)
+        → IfSome (plan_in o po) P
+    if_plan o po s p e f is =
+        subst (λ (x : Option S × Option Plan). IfSome (plan_in x.0 x.1) P) (λ i. (sym e i, sym f i)) is
 
-  pub are_there : (o : Option S) (s : S) → o ≡ Some s → IfSome o (λ x. AreOf (told x) n numbers taken loaded) → AreOf (told s) n numbers taken loaded
+  pub are_there : (o : Option S) (s : S) → o ≡ Some s → IfSome o (λ x. AreOf (told x) n numbers taken loaded)
+      → AreOf (told s) n numbers taken loaded
   are_there o s e are = subst (λ (x : Option S). IfSome x (λ y. AreOf (told y) n numbers taken loaded)) e are

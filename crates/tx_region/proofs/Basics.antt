@@ -31,6 +31,7 @@ on_ok_both (Ok x) P Q R step p q = step p q
 on_ok_both (Err e) P Q R step p q = tt
 
 -- by three
-pub on_ok_three : {T E : Type 0} (r : Result T E) (P Q R S : Type 0) → (P → Q → R → S) → OnOk r P → OnOk r Q → OnOk r R → OnOk r S
+pub on_ok_three : {T E : Type 0} (r : Result T E) (P Q R S : Type 0) → (P → Q → R → S) → OnOk r P → OnOk r Q → OnOk r R
+    → OnOk r S
 on_ok_three (Ok x) P Q R S step p q o = step p q o
 on_ok_three (Err e) P Q R S step p q o = tt

@@ -1,9 +1,16 @@
 -- What carrying out a plan makes of a region.
-use Rattle.std.proofs.Common.{◌≡◌, ℕ, inl, inr, cond, bytes_eq, sym, ap, ◌∙◌}
+use Rattle.std.proofs.Common.{◌≡◌, ◌≢◌, ℕ, inl, inr, cond, bytes_eq, refl, sym, ap, subst, ◌∙◌}
 use Rattle.tx_types.specs.declared.key.Key.{Key}
+use Rattle.tx_plan.specs.declared.body.Body.{Body}
+use Rattle.tx_plan.specs.declared.body.Body.TheVariants as body
+use Rattle.tx_plan.specs.declared.body.Prewrite.{Prewrite}
+use Rattle.tx_plan.specs.declared.key_change.KeyChange.{KeyChange}
+use Rattle.tx_plan.specs.Changes.{changed, Applies}
+use Rattle.tx_plan.specs.RealChanges.{Makes}
 use Rattle.tx_plan.specs.Cells.{Cells, Region, with_cells}
 use Rattle.tx_cells.specs.Contents.{OnKey, Content, cells_of, cells_in}
 use Rattle.tx_cells.specs.Afterwards.{OnlyOn}
+use Rattle.tx_region.specs.Copies.{made, MayMake}
 use Rattle.tx_region.proofs.Basics.{key_test, cond_true, cond_false}
 
 -- the region of a content
@@ -39,3 +46,34 @@ with_same region key = λ i. record { cells = λ q. at q i; max_read = region.ma
           | inl t ↦ cond_true _ _ _ t.0 ∙ ap region.cells t.1
           | inr t ↦ cond_false _ _ _ t.0
         ]
+
+-- what a request that is no prewrite plans is a change of the cells
+module _ (cells : Cells) (c : KeyChange) where
+  pub made_other : (b : Body) → ((x : Prewrite) → b ≢ body.Prewrite x) → made b cells c ≡ changed cells c
+  made_other (body.Prewrite x) other = absurd (other x refl)
+  made_other (body.Get x) other = refl
+  made_other (body.Scan x) other = refl
+  made_other (body.Commit x) other = refl
+  made_other (body.BatchRollback x) other = refl
+  made_other (body.TxnHeartBeat x) other = refl
+  made_other (body.CheckTxnStatus x) other = refl
+  made_other (body.CheckSecondaryLocks x) other = refl
+  made_other (body.ResolveLock x) other = refl
+  made_other (body.RaiseSafe x) other = refl
+  made_other (body.LocksBelow x) other = refl
+  made_other (body.Collect x) other = refl
+
+  pub may_other : (b : Body) → ((x : Prewrite) → b ≢ body.Prewrite x) → MayMake b cells c
+      → Applies cells c × Makes cells c
+  may_other (body.Prewrite x) other may = absurd (other x refl)
+  may_other (body.Get x) other may = subst (λ z. Applies cells z × Makes cells z) (sym may) (tt, tt)
+  may_other (body.Scan x) other may = may
+  may_other (body.Commit x) other may = may
+  may_other (body.BatchRollback x) other may = may
+  may_other (body.TxnHeartBeat x) other may = may
+  may_other (body.CheckTxnStatus x) other may = may
+  may_other (body.CheckSecondaryLocks x) other may = may
+  may_other (body.ResolveLock x) other may = may
+  may_other (body.RaiseSafe x) other may = may
+  may_other (body.LocksBelow x) other may = may
+  may_other (body.Collect x) other may = may

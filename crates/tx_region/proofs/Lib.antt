@@ -11,7 +11,7 @@ pub mod Taking
 -- What comes of a plan.
 pub mod Applying
 -- How many of the keys between the regions lie at a key or below it.
-pub mod Routes
+pub mod BoundsBelow
 -- The fronts of the keys between the regions tell where a key lies.
 pub mod KeyFronts
 -- What a try that stays in one place keeps.

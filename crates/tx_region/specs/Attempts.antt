@@ -7,7 +7,7 @@ use Rattle.tx_plan.specs.declared.body.Body.TheVariants.{Get}
 use Rattle.tx_plan.specs.declared.planned.Plan.{Plan}
 use Rattle.tx_core.specs.Histories.{History}
 use Rattle.tx_journal.specs.Replies.{Asked}
-use Rattle.tx_region.specs.Planning.{Copied, PlanOf, CarriesPlan, ComesOf}
+use Rattle.tx_region.specs.KeyPlans.{Copied, PlanOf, CarriesPlan, ComesOf}
 use Rattle.tx_region.specs.declared.applied.Applied.{Applied}
 use Rattle.tx_region.specs.declared.applied.Applied.TheVariants.{Done, Stale}
 

@@ -10,7 +10,7 @@ use Rattle.tx_plan.specs.Cells.{Cells, Region, with_cells}
 use Rattle.tx_plan.specs.Answers.{AnswersFrom, leaves}
 use Rattle.tx_plan.specs.Plans.{answer_with, read_upto}
 use Rattle.tx_plan.specs.Views.{info_on}
-use Rattle.tx_core.specs.Noting.{turn_of, NotesAll, Drops}
+use Rattle.tx_core.specs.LastChanges.{turn_of, NotesAll, Drops}
 
 -- A region executes a request: the answer is of the case tables, with the least minimum above
 -- `mark`, and the region is as that answer leaves it, whatever was the greatest timestamp read in

@@ -12,8 +12,8 @@ use Rattle.tx_plan.specs.declared.planned.Plan.{Plan}
 use Rattle.tx_plan.specs.Cells.{Cells, Region, with_cells}
 use Rattle.tx_plan.specs.Answers.{AnswersFrom, leaves}
 use Rattle.tx_plan.specs.Changes.{changed, Applies, new_lock, after_put, CanPut}
-use Rattle.tx_plan.specs.Committing.{commit_in}
-use Rattle.tx_plan.specs.Making.{Makes}
+use Rattle.tx_plan.specs.LockCommit.{commit_in}
+use Rattle.tx_plan.specs.RealChanges.{Makes}
 use Rattle.tx_plan.specs.Plans.{answer_with, with_read}
 use Rattle.tx_plan.specs.Views.{Shows, ShowsRead, info_on}
 use Rattle.tx_plan.specs.cases.Prewrite.{HasValue}

@@ -1,8 +1,8 @@
 pub mod Regions
 pub mod Calls
-pub mod Taking
+pub mod TakenRequests
 pub mod KeyFronts
 pub mod Copies
-pub mod Planning
+pub mod KeyPlans
 pub mod Commands
 pub mod Attempts

@@ -1,9 +1,9 @@
 //! One try of a request, in one place.
 ghost use Rattle.std.specs.Prelude.{◌≡◌, None, IsSomeAnd};
-ghost use Rattle.tx_region.specs.Planning.{IsCopyFor, IsPlanFor};
+ghost use Rattle.tx_region.specs.KeyPlans.{IsCopyFor, IsPlanFor};
 
 use crate::copy::{KeyView, Loaded, RegionNumbers, no_view};
-use crate::planning::plan_on;
+use crate::copy_plan::plan_on;
 use std::marker::Model;
 use tx_core::SeatNo;
 use tx_journal::{AnswerWithLock, JournalId, Request, Told};
@@ -41,7 +41,7 @@ pub struct Attempt<J: JournalId> {
 
 impl<J: JournalId> Model for Attempt<J> {
     ghost use Rattle.std.specs.Prelude.{IfSome, option_map, option_and_then};
-    ghost use Rattle.tx_region.specs.Planning.{AreOf};
+    ghost use Rattle.tx_region.specs.KeyPlans.{AreOf};
     ghost use Rattle.tx_region.specs.Attempts.{Tried};
 
     ghost Value = { Tried };
@@ -96,6 +96,7 @@ impl<J: JournalId> Attempt<J> {
         requires { IsSomeAnd self.old.copy (λ copy. IsCopyFor request.now copy) }
         ensures plan { IsSomeAnd self.new.plan (λ plan. IsPlanFor request.now plan
             × IsSomeAnd self.old.copy (λ copy. (plan.region ≡ copy.region) × (plan.events ≡ copy.events))) }
+        ensures same { self.new.answer ≡ self.old.answer }
     {
         let planned = plan_on(&mut self.view, &self.numbers, &self.loaded, request.body());
         self.planned = Some(planned);
@@ -103,7 +104,8 @@ impl<J: JournalId> Attempt<J> {
 
     /// The answer, which it then has no longer.
     pub fn take_answer(&mut self) -> Option<AnswerWithLock>
-        ensures { result ≡ self.old.answer }
+        ensures answer { (result ≡ self.old.answer) × (self.new.answer ≡ None) }
+        ensures same { (self.new.copy ≡ self.old.copy) × (self.new.plan ≡ self.old.plan) }
     {
         self.answer.take()
     }

@@ -4,7 +4,7 @@ ghost use Rattle.tx_core.specs.Worlds.{Holds};
 ghost use Rattle.tx_journal.specs.Known.{HasSeen};
 ghost use Rattle.tx_region.specs.Calls.{TakesNoMemory};
 ghost use Rattle.tx_region.specs.Commands.{IsGet, IsScan, IsPrewrite, IsCommit, IsBatchRollback, IsTxnHeartBeat, IsCheckTxnStatus, IsCheckSecondaryLocks, IsResolveLock, IsRaiseSafe, IsLocksBelow, IsCollect};
-ghost use Rattle.tx_region.specs.Taking.{Answered};
+ghost use Rattle.tx_region.specs.TakenRequests.{Answered};
 
 use crate::region::Region;
 use tx_cells::Families;

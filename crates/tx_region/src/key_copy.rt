@@ -1,9 +1,9 @@
 //! A copy of what a request sees of its key, and what is planned of it.
 ghost use Rattle.std.specs.Prelude.{◌≡◌};
-ghost use Rattle.tx_region.specs.Planning.{IsCopyFor, IsPlanFor};
+ghost use Rattle.tx_region.specs.KeyPlans.{IsCopyFor, IsPlanFor};
 
 use crate::copy::{KeyView, Loaded, RegionNumbers};
-use crate::planning::plan;
+use crate::copy_plan::plan;
 use std::marker::Model;
 use tx_core::SeatNo;
 use tx_journal::{JournalId, Request, Told};
@@ -31,7 +31,7 @@ pub struct KeyCopy<J: JournalId> {
 }
 
 impl<J: JournalId> Model for KeyCopy<J> {
-    ghost use Rattle.tx_region.specs.Planning.{Copied, AreOf};
+    ghost use Rattle.tx_region.specs.KeyPlans.{Copied, AreOf};
 
     ghost Value = { Copied };
 
@@ -68,7 +68,7 @@ pub struct Planned<J: JournalId> {
 }
 
 impl<J: JournalId> Model for Planned<J> {
-    ghost use Rattle.tx_region.specs.Planning.{PlanOf, AreOf, IsSomePlan};
+    ghost use Rattle.tx_region.specs.KeyPlans.{PlanOf, AreOf, IsSomePlan};
 
     ghost Value = { PlanOf };
 

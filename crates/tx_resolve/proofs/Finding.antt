@@ -35,7 +35,7 @@ use Rattle.tx_client.proofs.Marking.{taken_there}
 use Rattle.tx_resolve.specs.declared.found.For.{For}
 use Rattle.tx_resolve.specs.declared.found.Others.TheVariants as others
 use Rattle.tx_resolve.specs.declared.found.Other.TheVariants as other
-use Rattle.tx_resolve.specs.Resolving.{is_over, lets_pass, check_of, other_of, is_async, rests_by, standing_by, primary_by, other_by, status_of, settled_by}
+use Rattle.tx_resolve.specs.Resolution.{is_over, lets_pass, check_of, other_of, is_async, rests_by, standing_by, primary_by, other_by, status_of, settled_by}
 use Rattle.tx_resolve.specs.Facts.{Knows, IsPrimary, IsOther}
 use Rattle.tx_resolve.proofs.Allowing.{lock_known}
 

@@ -24,7 +24,7 @@ use Rattle.tx_journal.specs.Senders.{Reached, LosesNothing}
 use Rattle.tx_client.specs.Learns.{response_by, response_of}
 use Rattle.tx_client.specs.Facts.{WasAnswered, RespondsSo}
 use Rattle.tx_client.specs.Calls.{Asks}
-use Rattle.tx_resolve.specs.Collecting.{listed_by}
+use Rattle.tx_resolve.specs.Collection.{listed_by}
 use Rattle.tx_resolve.specs.Facts.{IsToRaise, IsToList, IsToCollect}
 use Rattle.tx_resolve.proofs.Finding.{gave}
 

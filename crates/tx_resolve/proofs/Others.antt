@@ -13,7 +13,7 @@ use Rattle.tx_client.proofs.Looking.{sent_then}
 use Rattle.tx_resolve.specs.declared.found.Others.{Others}
 use Rattle.tx_resolve.specs.declared.found.Others.TheVariants as others
 use Rattle.tx_resolve.specs.declared.found.Other.TheVariants as other
-use Rattle.tx_resolve.specs.Resolving.{other_walk, further, others_walk}
+use Rattle.tx_resolve.specs.Resolution.{other_walk, further, others_walk}
 use Rattle.tx_resolve.specs.Facts.{HadLocks}
 use Rattle.tx_resolve.proofs.Greatest.{locks_on, locks_push}
 

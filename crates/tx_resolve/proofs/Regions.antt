@@ -12,8 +12,8 @@ use Rattle.tx_journal.specs.Senders.{Reached}
 use Rattle.tx_client.specs.Walks.{Walk, Sends, Continues}
 use Rattle.tx_client.proofs.Looking.{sent_then}
 use Rattle.tx_resolve.specs.declared.found.For.TheVariants.{Collector}
-use Rattle.tx_resolve.specs.Resolving.{resolve_walk}
-use Rattle.tx_resolve.specs.Collecting.{on_ok, in_regions, locks_walk}
+use Rattle.tx_resolve.specs.Resolution.{resolve_walk}
+use Rattle.tx_resolve.specs.Collection.{on_ok, in_regions, locks_walk}
 
 -- a fault is handed on
 pub is_fault : {A : Type 0} (r : Result A Fault) (why : Fault) → IsErrAnd r (λ e. e ≡ why) → r ≡ Err why

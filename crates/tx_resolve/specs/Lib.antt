@@ -1,4 +1,4 @@
-pub mod Resolving
-pub mod Collecting
+pub mod Resolution
+pub mod Collection
 pub mod Facts
-pub mod Reading
+pub mod BlockedReads

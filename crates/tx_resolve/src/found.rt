@@ -1,6 +1,6 @@
 //! What the answers to a resolver's requests come to.
 ghost use Rattle.std.specs.Prelude.{◌≡◌};
-ghost use Rattle.tx_resolve.specs.Resolving.{caller_of, time_of, is_over, lets_pass, waiting_by, rests_by, standing_by, unlocked_by, primary_by, other_by, status_of, settled_by};
+ghost use Rattle.tx_resolve.specs.Resolution.{caller_of, time_of, is_over, lets_pass, waiting_by, rests_by, standing_by, unlocked_by, primary_by, other_by, status_of, settled_by};
 
 use tx_client::{Response, Status, WaitCause};
 use tx_core::Answer;

@@ -8,7 +8,7 @@ ghost use Rattle.tx_core.specs.Laws.{WasToldOf};
 ghost use Rattle.tx_journal.specs.Senders.{IsSender};
 ghost use Rattle.tx_client.specs.Statuses.{Ends};
 ghost use Rattle.tx_client.specs.Walks.{Sends};
-ghost use Rattle.tx_resolve.specs.Resolving.{check_of, other_of, settle_of, primary_walk, settle_walk, other_walk, others_walk, after_forced, forced_walk, after_others, expired_walk, after_primary, resolve_walk};
+ghost use Rattle.tx_resolve.specs.Resolution.{check_of, other_of, settle_of, primary_walk, settle_walk, other_walk, others_walk, after_forced, forced_walk, after_others, expired_walk, after_primary, resolve_walk};
 ghost use Rattle.tx_resolve.specs.Facts.{Knows, IsPrimarysLock, IsPrimary, IsOthers, IsOther};
 
 use crate::found::{For, Other, Others, Primary, other_by, primary_by, settled_by};

@@ -48,7 +48,8 @@ abbrev pub arrow_text : Bool → List ℕ
 arrow_text is_last = cond is_last (codes "</g>\n") (codes "<path d=\"M88 40v58m-5 -8l5 8l5 -8\"/></g>\n")
 
 abbrev pub step_text : ℕ → Bool → List ℕ → List ℕ → List ℕ → List ℕ → List ℕ
-step_text place is_last kind name label sense = box_text place kind name ++ (words_text label sense ++ arrow_text is_last)
+step_text place is_last kind name label sense =
+    box_text place kind name ++ (words_text label sense ++ arrow_text is_last)
 
 -- the arrow from the last box to the first
 abbrev pub end_text : ℕ → List ℕ → List ℕ

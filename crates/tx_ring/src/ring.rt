@@ -152,8 +152,8 @@ fn put_arrow(out: &mut Vec<u8>, is_last: bool) -> Result<(), AllocError>
     out.extend_from_slice(b"<path d=\"M88 40v58m-5 -8l5 8l5 -8\"/></g>\n")
 }
 
-/// Appends the box at a place with its name, and the arrow to the next one, which is of a kind, with
-/// its words. The arrow of the last one is drawn at the end.
+/// Appends the box at a place with its name, and the arrow to the next one, which is of a kind,
+/// with its words. The arrow of the last one is drawn at the end.
 pub fn put_step(
     out: &mut Vec<u8>,
     place: usize,

@@ -109,7 +109,8 @@ can_tell bounds l k t o keys n knew r same between tells =
             among = inl refl;
             between =
                 between_on bounds k.events (Answered t o
-                ∷ r.recorded.before) run (inr (extends_begins k.seat k.events r.recorded.before r.recorded.extends)) t o keys
+                ∷ r.recorded.before) run (inr (extends_begins k.seat k.events r.recorded.before r.recorded.extends)) t o
+                keys
                 between;
           });
       fresh = fresh bounds l.told r.recorded.before l.seat t o l.replies run before tells;

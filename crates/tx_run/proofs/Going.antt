@@ -6,6 +6,7 @@ use Rattle.std.proofs.lemmas.List.{map-append, reverse-reverse}
 use Rattle.std.proofs.lemmas.List.Folds.{list_any-append}
 use Rattle.tx_types.specs.declared.fault.Cause.{Cause}
 use Rattle.tx_core.specs.Histories.{History}
+use Rattle.tx_transaction.specs.Buffers.{Entries}
 use Rattle.tx_run.specs.declared.reply.LineAnswer.{LineAnswer}
 use Rattle.tx_run.specs.declared.reply.LineAnswer.TheVariants.{Plain, Ended}
 use Rattle.tx_run.specs.declared.reply.LineReply.{LineReply}
@@ -14,7 +15,7 @@ use Rattle.tx_run.specs.declared.state.JobState.TheVariants.{Free, Live, Transfe
 use Rattle.tx_run.specs.States.{going_of, is_transfer}
 use Rattle.tx_run.specs.Answers.{Answers, EndsSo, has_fault, is_fault, numbers_of}
 use Rattle.tx_run.specs.Logs.{KeepsAnswer, Logged, answer_to}
-use Rattle.tx_run.specs.Jobs.{GoesOn, IsSound, MayAnswer, Output, Promises, Working, job_lines, with_line}
+use Rattle.tx_run.specs.Jobs.{JobGoesOn, IsSound, MayAnswer, Output, Promises, Working, job_lines, with_line}
 
 -- ---- step after step
 
@@ -22,7 +23,7 @@ unfaulted : (b c : Bool) → (b ≡ true → c ≡ true) → c ≡ false → b �
 unfaulted false c up e = refl
 unfaulted true c up e = let t : c ≡ true = up refl in absurd (cc)
 
-pub goes_refl : (j : Working) → GoesOn j j
+pub goes_refl : (j : Working) → JobGoesOn j j
 goes_refl j = record {
   number = refl;
   seat = refl;
@@ -31,8 +32,8 @@ goes_refl j = record {
   lines = λ e. ([], sym (append-nil (job_lines j)), λ f. refl);
 }
 
-pub goes_same : (j new : Working) → new ≡ j → GoesOn j new
-goes_same j new is = subst (λ (w : Working). GoesOn j w) (sym is) (goes_refl j)
+pub goes_same : (j new : Working) → new ≡ j → JobGoesOn j new
+goes_same j new is = subst (λ (w : Working). JobGoesOn j w) (sym is) (goes_refl j)
 
 none_behind : (front behind : List ℕ) → front ≡ [] → behind ≡ [] → front ++ behind ≡ []
 none_behind front behind a b = ap (λ (l : List ℕ). l ++ behind) a ∙ b
@@ -40,7 +41,7 @@ none_behind front behind a b = ap (λ (l : List ℕ). l ++ behind) a ∙ b
 parted : (a b c front behind : List ℕ) → a ≡ b ++ behind → b ≡ c ++ front → a ≡ c ++ (front ++ behind)
 parted a b c front behind x y = x ∙ ap (λ (l : List ℕ). l ++ behind) y ∙ append_assoc c front behind
 
-pub goes_trans : (a b c : Working) → GoesOn a b → GoesOn b c → GoesOn a c
+pub goes_trans : (a b c : Working) → JobGoesOn a b → JobGoesOn b c → JobGoesOn a c
 goes_trans a b c x y = record {
   number = y.number ∙ x.number;
   seat = y.seat ∙ x.seat;
@@ -81,7 +82,7 @@ last_answered xs ys number answer going left over is none cleared =
     ∙ append_assoc (numbers_of xs) (number ∷ []) left)
 
 pub answered : (j : Working) (log : Logged) (number : ℕ) (answer : LineAnswer) → MayAnswer j → log.seat ≡ j.log.seat
-    → KeepsAnswer j.log number answer log → GoesOn (with_line number j) (record j { log = log })
+    → KeepsAnswer j.log number answer log → JobGoesOn (with_line number j) (record j { log = log })
 answered j log number answer may seat keeps = record {
   number = refl;
   seat = seat;
@@ -113,7 +114,7 @@ sound_answered j log number answer sound may keeps not = record {
 
 pub failed : (j : Working) (log : Logged) (number : ℕ) (cause : Cause) (left : List ℕ) → MayAnswer j
     → log.seat ≡ j.log.seat → KeepsAnswer j.log number (Plain (Err cause)) log → left ≡ []
-    → GoesOn (with_line number j) (record j { log = log; left = left; faulted = true })
+    → JobGoesOn (with_line number j) (record j { log = log; left = left; faulted = true })
 failed j log number cause left may seat keeps cleared = record {
   number = refl;
   seat = seat;
@@ -142,24 +143,37 @@ sound_failed j log number cause left sound may keeps cleared = record {
 
 -- ---- what is on its way changes
 
-pub may_still : (j mid : Working) → mid ≡ record j { going = None } → j.faulted ≡ false → MayAnswer mid
-may_still j mid is not = (ap (λ (w : Working). w.going) is, ap (λ (w : Working). w.faulted) is ∙ not)
+-- what its session has entered counts for nothing
+pub goes_entered : (a j : Working) (es : Entries) → JobGoesOn a j → JobGoesOn a (record j { entered = es })
+goes_entered a j es goes = record {
+  number = goes.number;
+  seat = goes.seat;
+  kept = goes.kept;
+  faulted = goes.faulted;
+  lines = goes.lines;
+}
 
-pub from_state : (j mid new : Working) (number : ℕ) → mid ≡ record j { going = None }
-    → GoesOn (with_line number mid) new → GoesOn (with_line number j) new
-from_state j mid new number is goes = subst (λ (w : Working). GoesOn (with_line number w) new) is goes
+pub may_still : (j mid : Working) (es : Entries) → mid ≡ record j { going = None; entered = es } → j.faulted ≡ false
+    → MayAnswer mid
+may_still j mid es is not = (ap (λ (w : Working). w.going) is, ap (λ (w : Working). w.faulted) is ∙ not)
 
-pub to_state : (a mid new : Working) → GoesOn a mid → MayAnswer mid → new ≡ record mid { going = None } → GoesOn a new
-to_state a mid new goes may is =
-    let same : record mid { going = None } ≡ mid = ap (λ (g : Option ℕ). record mid { going = g }) (sym may.0) in
-    subst (λ (w : Working). GoesOn a w) (sym (is ∙ same)) goes
+pub from_state : (j mid new : Working) (number : ℕ) (es : Entries) → mid ≡ record j { going = None; entered = es }
+    → JobGoesOn (with_line number mid) new → JobGoesOn (with_line number j) new
+from_state j mid new number es is goes = subst (λ (w : Working). JobGoesOn (with_line number w) new) is goes
+
+pub to_state : (a mid new : Working) (es : Entries) → JobGoesOn a mid → MayAnswer mid
+    → new ≡ record mid { going = None; entered = es } → JobGoesOn a new
+to_state a mid new es goes may is =
+    let same : record mid { going = None; entered = es } ≡ record mid { entered = es } =
+    ap (λ (g : Option ℕ). record mid { going = g; entered = es }) (sym may.0) in
+    subst (λ (w : Working). JobGoesOn a w) (sym (is ∙ same)) (goes_entered a mid es goes)
 
 -- its log was told more
 module _ (j heard : Working) (told : History) (number : ℕ)
     (hears : heard ≡ record j { log = record j.log { told = told } }) where
-  pub heard_goes : (new : Working) → GoesOn (with_line number heard) new → GoesOn (with_line number j) new
+  pub heard_goes : (new : Working) → JobGoesOn (with_line number heard) new → JobGoesOn (with_line number j) new
   heard_goes new goes =
-      let more = subst (λ (w : Working). GoesOn (with_line number w) new) hears goes in
+      let more = subst (λ (w : Working). JobGoesOn (with_line number w) new) hears goes in
       record {
         number = more.number;
         seat = more.seat;
@@ -168,19 +182,20 @@ module _ (j heard : Working) (told : History) (number : ℕ)
         lines = more.lines;
       }
 
-  pub from_heard : (mid new : Working) → mid ≡ record heard { going = None } → GoesOn (with_line number mid) new
-      → GoesOn (with_line number j) new
-  from_heard mid new is goes = heard_goes new (from_state heard mid new number is goes)
+  pub from_heard : (mid new : Working) (es : Entries) → mid ≡ record heard { going = None; entered = es }
+      → JobGoesOn (with_line number mid) new → JobGoesOn (with_line number j) new
+  from_heard mid new es is goes = heard_goes new (from_state heard mid new number es is goes)
 
   pub may_heard : MayAnswer j → MayAnswer heard
   may_heard may =
       (ap (λ (w : Working). w.going) hears ∙ may.0, ap (λ (w : Working). w.faulted) hears ∙ may.1)
 
 -- a transfer is on its way
-pub began : (j new : Working) (number transfer : ℕ) → transfer ≡ number → new ≡ record j { going = Some transfer }
-    → GoesOn (with_line number j) new
+pub began : (j new : Working) (number transfer : ℕ) → transfer ≡ number
+    → new ≡ record j { going = Some transfer; entered = [] } → JobGoesOn (with_line number j) new
 began j new number transfer same is =
-    subst (λ (w : Working). GoesOn (with_line number j) w) (sym (is ∙ ap (λ (n : ℕ). record j { going = Some n }) same))
+    subst (λ (w : Working). JobGoesOn (with_line number j) w)
+    (sym (is ∙ ap (λ (n : ℕ). record j { going = Some n; entered = [] }) same))
     (record {
       number = refl;
       seat = refl;
@@ -190,12 +205,12 @@ began j new number transfer same is =
     })
 
 -- it was, and its line is answered
-pub ended : (j mid new : Working) (number : ℕ) → mid ≡ record j { going = None } → Some number ≡ j.going
-    → GoesOn (with_line number mid) new → GoesOn j new
+pub ended : (j mid new : Working) (number : ℕ) → mid ≡ record j { going = None; entered = [] }
+    → Some number ≡ j.going → JobGoesOn (with_line number mid) new → JobGoesOn j new
 ended j mid new number is going goes =
     let same : record j { going = Some number } ≡ j = ap (λ (g : Option ℕ). record j { going = g }) going in
-    let more = from_state j mid new number is goes in
-    subst (λ (w : Working). GoesOn w new) same
+    let more = from_state j mid new number [] is goes in
+    subst (λ (w : Working). JobGoesOn w new) same
     (record {
       number = more.number;
       seat = more.seat;
@@ -206,24 +221,31 @@ ended j mid new number is going goes =
     })
 
 -- it goes on
-pub put_back : (j mid new : Working) (going : Option ℕ) → mid ≡ record j { going = None } → going ≡ j.going
-    → new ≡ record mid { going = going } → GoesOn j new
-put_back j mid new going is same new_is =
-    goes_same j new (new_is ∙ ap (λ (w : Working). record w { going = going }) is
-    ∙ ap (λ (g : Option ℕ). record j { going = g }) same)
+pub put_back : (j mid new : Working) (going : Option ℕ) (es : Entries) → mid ≡ record j { going = None; entered = [] }
+    → going ≡ j.going → new ≡ record mid { going = going; entered = es } → JobGoesOn j new
+put_back j mid new going es is same new_is =
+    subst (λ (w : Working). JobGoesOn j w) (sym (new_is ∙ ap (λ (w : Working). record w { going = going; entered = es }) is
+    ∙ ap (λ (g : Option ℕ). record j { going = g; entered = es }) same)) (goes_entered j j es (goes_refl j))
 
 -- ---- a line is taken
 
 pub taken : (j mid new : Working) (number : ℕ) → j ≡ record mid { left = number ∷ mid.left } → mid.going ≡ None
-    → GoesOn (with_line number mid) new → GoesOn j new
+    → JobGoesOn (with_line number mid) new → JobGoesOn j new
 taken j mid new number is none goes =
-    let same : with_line number mid ≡ record mid { left = number ∷ mid.left } =
-    ap (λ (g : Option ℕ). record mid { going = g; left = number ∷ mid.left }) (sym none) in
-    subst (λ (w : Working). GoesOn w new) (same ∙ sym is) goes
+    let same : with_line number mid ≡ record mid { left = number ∷ mid.left; entered = [] } =
+    ap (λ (g : Option ℕ). record mid { going = g; left = number ∷ mid.left; entered = [] }) (sym none) in
+    let more = subst (λ (w : Working). JobGoesOn w new) same goes in
+    subst (λ (w : Working). JobGoesOn w new) (sym is) (record {
+      number = more.number;
+      seat = more.seat;
+      kept = more.kept;
+      faulted = more.faulted;
+      lines = more.lines;
+    })
 
 -- ---- what it comes to
 
-pub leads : (a b : Working) (o : Output) → GoesOn a b → Promises b o → Promises a o
+pub leads : (a b : Working) (o : Output) → JobGoesOn a b → Promises b o → Promises a o
 leads a b o goes promises = record {
   seat = promises.seat ∙ goes.seat;
   kept = λ e. goes.kept (promises.kept e);

@@ -13,7 +13,7 @@ use Rattle.std.proofs.lemmas.Slice.Eq.{bytes_eq-Decides}
 use Rattle.tx_steps.specs.declared.program.Program.TheVariants.{Run}
 use Rattle.tx_steps.specs.declared.step.Step.{Step}
 use Rattle.tx_steps.specs.Steps.{Text}
-use Rattle.tx_run.specs.Reading.{KeepsText, firsts_of, is_named, is_seed, lines_of_session, name_in, opening_of, seeds_of, session_names, session_of, sessions_of, step_for, step_of, with_name}
+use Rattle.tx_run.specs.ScriptLines.{KeepsText, firsts_of, is_named, is_seed, lines_of_session, name_in, opening_of, seeds_of, session_names, session_of, sessions_of, step_for, step_of, with_name}
 use Rattle.tx_text.specs.Lines.{lines_of}
 use Rattle.tx_transfer.specs.Sources.{HasLine}
 use Rattle.tx_types.specs.declared.key.Key.{Key}

@@ -8,6 +8,7 @@ pub mod Keeping
 pub mod Leaving
 pub mod LineOrder
 pub mod Naming
+pub mod OwnLines
 pub mod Seating
 pub mod Seeding
 pub mod Sourcing

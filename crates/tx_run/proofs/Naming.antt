@@ -11,7 +11,7 @@ use Rattle.std.proofs.lemmas.Map.Keys.{IsDistinct-push, IsDistinct-head, IsDisti
 use Rattle.std.proofs.lemmas.Map.Steps.{list_any_congr}
 use Rattle.std.proofs.lemmas.Option.{same_Some}
 use Rattle.tx_steps.specs.Steps.{Text}
-use Rattle.tx_run.specs.Reading.{is_named, is_seed, lines_of_session, numbered, seeds_of, session_names, session_of, with_name}
+use Rattle.tx_run.specs.ScriptLines.{is_named, is_seed, lines_of_session, numbered, seeds_of, session_names, session_of, with_name}
 
 -- ---- names
 

@@ -8,7 +8,7 @@ use Rattle.std.proofs.Math.Seq.{get_or-append_seam}
 use Rattle.std.specs.Borrow.{Bor}
 use Rattle.serde_json.specs.Data.{Data}
 use Rattle.tx_types.specs.declared.key.Key.{Key}
-use Rattle.tx_text.specs.Lines.{lines_of, max_line, max_lines, Reads}
+use Rattle.tx_text.specs.Lines.{lines_of, max_line, max_lines, ReadsLine}
 use Rattle.tx_text.specs.Parts.{json_of}
 use Rattle.tx_text.specs.declared.lines.Found.TheVariants.{Line, Long}
 use Rattle.tx_types.specs.declared.fault.Cause.{Cause}
@@ -21,7 +21,7 @@ use Rattle.tx_steps.specs.Lines.{data_said, step_in}
 use Rattle.tx_run.specs.declared.reply.LineAnswer.{LineAnswer}
 use Rattle.tx_run.specs.declared.reply.LineAnswer.TheVariants.{Plain, Ended}
 use Rattle.tx_run.specs.declared.reply.LineReply.{LineReply}
-use Rattle.tx_run.specs.Faults.{IsFaultless, NoneBefore, Takes, TellsFault, fault_of, refused_as}
+use Rattle.tx_run.specs.Faults.{IsFaultless, NoneBefore, TakesLine, TellsFault, fault_of, refused_as}
 use Rattle.tx_run.specs.Outcomes.{start_of}
 use Rattle.tx_transfer.specs.Sources.{pair_of, pair_in, pair_said, HasLine, HasPair}
 use Rattle.tx_run.specs.Pairs.{SaysPair, TellsPair}
@@ -46,10 +46,10 @@ stands_first (Some text) left same = record { rest = text; before = []; is = sym
 
 -- what is read of a text where this is left
 abbrev pub ReadsSome : Option (List ℕ) → Option (List ℕ) → List ℕ → Type 0
-ReadsSome left now line = IfSome left (λ bytes. Reads bytes now Line line)
+ReadsSome left now line = IfSome left (λ bytes. ReadsLine bytes now Line line)
 
 reads_it : (rest : List ℕ) (left now : Option (List ℕ)) (line : List ℕ) → left ≡ Some rest → ReadsSome left now line
-    → Reads rest now Line line
+    → ReadsLine rest now Line line
 reads_it rest left now line is reads = subst (λ (o : Option (List ℕ)). ReadsSome o now line) is reads
 
 at_seam : (xs : List (List ℕ)) (y : List ℕ) (ys : List (List ℕ)) → slice_get (xs ++ y ∷ ys) (length xs) ≡ Some y
@@ -128,11 +128,11 @@ so_far_whole (Some text) left number stands ends before =
 
 -- a line that is too long has that fault
 pub long_fault : (source left : Option (List ℕ)) (now : Option (List ℕ)) (line : List ℕ) (number : ℕ)
-    → Stands source left number → IfSome left (λ bytes. Reads bytes now Long line) → SoFar source number
+    → Stands source left number → IfSome left (λ bytes. ReadsLine bytes now Long line) → SoFar source number
     → TellsFault source number causes.Long
 long_fault None left now line number stands reads before = tt
 long_fault (Some text) left now line number stands reads before =
-    let r = subst (λ (o : Option (List ℕ)). IfSome o (λ bytes. Reads bytes now Long line)) stands.is reads in
+    let r = subst (λ (o : Option (List ℕ)). IfSome o (λ bytes. ReadsLine bytes now Long line)) stands.is reads in
     let all : lines_of text ≡ stands.before ++ r.0 ∷ r.1 =
     stands.split ∙ ap (λ (l : List (List ℕ)). stands.before ++ l) r.3 in
     let at : number - 1 ≡ length stands.before = omega (arith, stands.numbered) in
@@ -165,7 +165,7 @@ few_lines number line none = elim (cases_lt max_lines number) [
 
 -- a line that is not taken has the fault that is told
 pub take_fault : (source : Option (List ℕ)) (number sessions : ℕ) (line : List ℕ) (cause : Cause)
-    → HasLine source number line → SoFar source number → sessions < number → Takes number line sessions (Err cause)
+    → HasLine source number line → SoFar source number → sessions < number → TakesLine number line sessions (Err cause)
     → TellsFault source number cause
 take_fault None number sessions line cause has before fewer takes = tt
 take_fault (Some text) number sessions line cause has before fewer takes = record {

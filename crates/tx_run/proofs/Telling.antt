@@ -1,12 +1,11 @@
 -- What a step of a session is told, over a store: it tells of what has happened.
-use Rattle.std.proofs.Common.{◌≡◌, inl, inr, ◌&&◌, ℕ, Bool, true, false, List, [], ◌++◌, Option, Some, None, Result, Ok, Err, refl, sym, ap, subst, ◌∙◌}
+use Rattle.std.proofs.Common.{◌≡◌, inl, inr, ℕ, Bool, true, false, List, [], ◌++◌, Option, Some, None, Result, Ok, Err, refl, sym, ap, subst, ◌∙◌}
 use Rattle.tx_types.specs.declared.fault.Fault.{Fault}
+use Rattle.tx_types.specs.declared.fault.Cause.{Cause}
 use Rattle.tx_types.specs.declared.fault.Cause.TheVariants.{Order}
 use Rattle.tx_types.specs.declared.key.Key.{Key}
 use Rattle.tx_types.specs.declared.value.Value.{Value}
 use Rattle.tx_types.specs.declared.lock.LockInfo.{LockInfo}
-use Rattle.tx_types.specs.Lengths.{is_key}
-use Rattle.tx_plan.specs.declared.answer.Answer.{Answer}
 use Rattle.tx_core.specs.declared.event.Event.TheVariants as event
 use Rattle.tx_core.specs.Histories.{History, Among, Begins}
 use Rattle.tx_core.proofs.seats.Beginnings.{extends_begins}
@@ -14,17 +13,14 @@ use Rattle.tx_core.proofs.seats.Staying.{among_on}
 use Rattle.tx_journal.specs.Known.{Known}
 use Rattle.tx_store.specs.Stores.{Replies}
 use Rattle.tx_transaction.specs.declared.state.Terms.{Terms}
-use Rattle.tx_transaction.specs.declared.state.Miss.{Miss}
-use Rattle.tx_transaction.specs.declared.state.Phase.TheVariants as phase
-use Rattle.tx_transaction.specs.Sessions.{SessionState, is_declared, can_draw, can_commit, can_abort, has_primary, due_prewrite, due_commit, due_abort, with_passed}
+use Rattle.tx_transaction.specs.Sessions.{SessionState, is_declared, can_draw, with_passed}
 use Rattle.tx_client.specs.declared.resolved.Status.{Status}
 use Rattle.tx_client.specs.Statuses.{lies_above}
 use Rattle.tx_client.specs.Calls.{Seated, BeganAt}
-use Rattle.tx_client.specs.Walks.{Walk, get_walk, scan_walk, heartbeat_walk}
-use Rattle.tx_resolve.specs.Reading.{read_walk}
-use Rattle.tx_edits.specs.Edits.{Edit, Edited, puts, inserts, deletes, locks}
+use Rattle.tx_client.specs.Walks.{Walk}
+use Rattle.tx_resolve.specs.BlockedReads.{read_walk}
+use Rattle.tx_ops.specs.Edits.{Edit, Edited, puts, inserts, deletes, locks}
 use Rattle.tx_steps.specs.declared.call.Call.{Call}
-use Rattle.tx_steps.specs.declared.call.Call.TheVariants as call
 use Rattle.tx_steps.specs.declared.delivery.Delivery.{Delivery}
 use Rattle.tx_steps.specs.declared.op.Op.{Op}
 use Rattle.tx_steps.specs.declared.op.Op.TheVariants as op
@@ -33,17 +29,44 @@ use Rattle.tx_steps.specs.declared.step.Step.TheVariants as step
 use Rattle.tx_steps.specs.Steps.{Text}
 use Rattle.tx_reply.specs.declared.reply.ScriptReply.{ScriptReply}
 use Rattle.tx_reply.specs.declared.reply.ScriptReply.TheVariants as reply
-use Rattle.tx_evidence.specs.Tells.{Entered, Enters, WasFound, TellsAnswer, TellsBy}
+use Rattle.tx_evidence.specs.Tells.{Entered, Enters, WasFound, TellsBy}
 use Rattle.tx_evidence.specs.Buffers.{AllBy}
 use Rattle.tx_evidence.proofs.Buffers.{IsRefusal, EntersBy, puts_by, inserts_so, deletes_by, locks_by}
-use Rattle.tx_evidence.proofs.Coming.{Comes, Keeps, Told, ToldMay, comes_then, due_comes, heartbeat_comes, get_comes, scan_comes, resolve_comes}
+use Rattle.tx_evidence.proofs.Calling.{TellsSaid, call_comes}
+use Rattle.tx_evidence.proofs.Calling.{TellsOwn as CallTells}
+use Rattle.tx_evidence.proofs.Coming.{Comes, resolve_comes}
 use Rattle.tx_evidence.proofs.Sending.{sends_comes}
 use Rattle.tx_evidence.proofs.Staying.{found_on}
-use Rattle.tx_transfer.specs.Acts.{Said, Declares, DrawsIf, found_of, status_said, ResolvesOr, Acts}
-use Rattle.tx_transfer.specs.Calls.{read_reply, sent_reply, read_call, allowed_call, call_walk}
+use Rattle.tx_ops.specs.Acts.{Declares, DrawsIf}
+use Rattle.tx_ops.specs.Calls.{Said, call_walk}
+use Rattle.tx_transfer.specs.Acts.{found_of, status_said, ResolvesOr, Acts}
 use Rattle.tx_transfer.specs.Resolving.{ResolvesMet}
 use Rattle.tx_transfer.specs.Sending.{SendsOver}
 use Rattle.tx_run.specs.Tells.{SaidTells}
+
+-- what a step is told, where it is told something, tells of what has happened
+abbrev SaidBy : List Key → Entered → History → Step Text → Result ScriptReply Cause → Type 0
+SaidBy bounds entered h what (Ok said) = TellsBy bounds entered h what said
+SaidBy bounds entered h what (Err cause) = Unit {0}
+
+-- what a session does by itself tells nothing that was entered, and no step of a session is a seed
+module _ (bounds : List Key) (entered before : Entered) (h : History) (name : Text) (what : Op Text) where
+  act_by : (it : ScriptReply) → TellsBy bounds entered h (step.Act name what) it
+      → TellsBy bounds before h (step.Act name what) it
+  act_by (reply.Answered a) tells = tells
+  act_by (reply.Versions copy) tells = tells
+  act_by _ tells = tells
+
+  said_act : (said : Said) → SaidBy bounds entered h (step.Act name what) said
+      → SaidTells bounds before h (step.Act name what) said
+  said_act (Ok it) tells = (act_by it tells, tt)
+  said_act (Err cause) tells = tt
+
+said_send : (bounds : List Key) (entered : Entered) (h : History) (name : Text) (what : Call Text) (d : Delivery Text)
+    (said : Said) → SaidBy bounds entered h (step.Send name what d) said
+    → SaidTells bounds entered h (step.Send name what d) said
+said_send bounds entered h name what d (Ok it) tells = (tells, tt)
+said_send bounds entered h name what d (Err cause) tells = tt
 
 -- whatever is answered on its way, this holds of what a walk comes to: so it holds where the
 -- requests were sent over a store
@@ -60,64 +83,24 @@ module _ (bounds : List Key) (entered : Entered) (name : Text) where
   -- what a step is told tells of what has happened, and the session's buffer is still as it was
   -- entered
   abbrev pub TellsOwn : Step Text → History → SessionState × Said → Type 0
-  TellsOwn what h x = Own x.0 × SaidTells bounds entered h what x.1
+  TellsOwn what h x = Own x.0 × SaidBy bounds entered h what x.1
 
-  module _ (what : Step Text) where
-    abbrev Tells : History → Answer → Type 0
-    Tells h a = TellsAnswer bounds entered h what a
-
-    -- ---- what a session sends
-
-    read_told : (h : History) (r : Result Answer Miss) → Told Tells h r → TellsBy bounds entered h what (read_reply r)
-    read_told h (Ok a) told = told
-    read_told h (Err m) told = tt
-
-    sent_told : (h : History) (r : Result (Option Answer) Miss) → ToldMay Tells h r
-        → TellsBy bounds entered h what (sent_reply r)
-    sent_told h (Ok None) told = tt
-    sent_told h (Ok (Some a)) told = told
-    sent_told h (Err m) told = tt
-
-    read_tells : (h : History) (s : SessionState) → Own s → (is : Bool) (w : Walk (SessionState × Result Answer Miss))
-        → Comes (Keeps entered name (Told Tells)) h w → Comes (TellsOwn what) h (read_call is s w)
-    read_tells h s own false w comes = (own, tt)
-    read_tells h s own true w comes = (
-      comes_then (Keeps entered name (Told Tells)) (TellsOwn what) w _ h comes
-          (λ l x begins told. (told.0, read_told l x.1 told.1)),
-      (own, tt),
-    )
-
-    allowed_tells : (h : History) (s : SessionState) → Own s → (is : Bool)
-        (w : Walk (SessionState × Result (Option Answer) Miss)) → Comes (Keeps entered name (ToldMay Tells)) h w
-        → Comes (TellsOwn what) h (allowed_call is s w)
-    allowed_tells h s own false w comes = (own, tt)
-    allowed_tells h s own true w comes =
-        comes_then (Keeps entered name (ToldMay Tells)) (TellsOwn what) w _ h comes
-        (λ l x begins told. (told.0, sent_told l x.1 told.1))
-
-  call_tells : (h : History) (s : SessionState) → Own s → (what : Call Text) (d : Delivery Text)
-      → Comes (TellsOwn (step.Send name what d)) h (call_walk bounds s what)
-  call_tells h s own (call.Get key) d =
-      read_tells (step.Send name (call.Get key) d) h s own (is_key key) (get_walk s key) (get_comes entered name h s own key)
-  call_tells h s own (call.Scan from to limit) d =
-      read_tells (step.Send name (call.Scan from to limit) d) h s own (is_key from && is_key to)
-      (scan_walk s bounds from to limit) (scan_comes bounds entered name from to limit d h s own)
-  call_tells h s own call.Prewrite d = allowed_tells (step.Send name call.Prewrite d) h s own (is_declared s) _
-      (due_comes entered name h s own phase.Prewrite (due_prewrite s))
-  call_tells h s own call.Commit d = allowed_tells (step.Send name call.Commit d) h s own (can_commit s) _
-      (due_comes entered name h s own phase.Commit (due_commit s))
-  call_tells h s own call.Abort d = allowed_tells (step.Send name call.Abort d) h s own (can_abort s) _
-      (due_comes entered name h s own phase.Abort (due_abort s))
-  call_tells h s own (call.Heartbeat ttl) d = allowed_tells (step.Send name (call.Heartbeat ttl) d) h s own
-      (has_primary s) (heartbeat_walk s ttl) (heartbeat_comes entered name h s own ttl)
+  said_tells : (what : Step Text) (h : History) (said : Said) → TellsSaid bounds entered name what h said
+      → SaidBy bounds entered h what said
+  said_tells what h (Ok said) told = told
+  said_tells what h (Err cause) told = tt
 
   -- what a session is told that made a call
   pub send_tells : (old new : Seated) (what : Call Text) (d : Delivery Text) (said : Said) → Own old.state
       → SendsOver bounds old.seat (call_walk bounds old.state what) (new.state, said) new.seat
-      → TellsOwn (step.Send name what d) new.seat.events (new.state, said)
+      → Own new.state × SaidTells bounds entered new.seat.events (step.Send name what d) said
   send_tells old new what d said own sent =
-      over bounds (TellsOwn (step.Send name what d)) (call_walk bounds old.state what) old.seat new.seat
-      (new.state, said) (call_tells old.seat.events old.state own what d) sent
+      let told = over bounds (CallTells bounds entered name (step.Send name what d)) (call_walk bounds old.state what)
+      old.seat new.seat (new.state, said) (call_comes bounds entered name old.seat.events old.state own what d) sent in (
+        told.0,
+        said_send bounds entered new.seat.events name what d said
+            (said_tells (step.Send name what d) new.seat.events said told.1),
+      )
 
   -- ---- what a session does by itself
 
@@ -128,8 +111,8 @@ module _ (bounds : List Key) (entered : Entered) (name : Text) where
     same_own : new ≡ old → Own new.state
     same_own is = subst (λ (s : Seated). Own s.state) (sym is) own
 
-    told : Own new.state → (r : Said) → said ≡ r → SaidTells bounds entered new.seat.events what r → Does
-    told still r is by = (still, subst (λ (x : Said). SaidTells bounds entered new.seat.events what x) (sym is) by)
+    told : Own new.state → (r : Said) → said ≡ r → SaidBy bounds entered new.seat.events what r → Does
+    told still r is by = (still, subst (λ (x : Said). SaidBy bounds entered new.seat.events what x) (sym is) by)
 
     refusal : (r : ScriptReply) → IsRefusal r → TellsBy bounds entered new.seat.events what r
     refusal reply.OutOfMemory is = tt
@@ -152,10 +135,11 @@ module _ (bounds : List Key) (entered : Entered) (name : Text) where
 
     declare_tells : (b : Bool) (terms : Terms) → Declares bounds b old terms said new → Does
     declare_tells true terms (is, same) = told (same_own same) (Err Order) is tt
-    declare_tells false terms (inl (is, fits, state, records)) =
+    declare_tells false terms (inl (is, fits, state, records, placed)) =
         told (subst Own (sym state) own) (Ok reply.Fine) is tt
     declare_tells false terms (inr (inl (is, exceeds, same))) = told (same_own same) (Ok reply.TooManyKeys) is tt
-    declare_tells false terms (inr (inr (is, ticks, same))) = told (same_own same) (Ok reply.OracleSpent) is tt
+    declare_tells false terms (inr (inr (is, fits, some, ticks, same))) =
+        told (same_own same) (Ok reply.OracleSpent) is tt
 
     draw_tells : (b : Bool) → DrawsIf bounds b old said new → Does
     draw_tells false (is, same) = told (same_own same) (Err Order) is tt
@@ -184,38 +168,46 @@ module _ (bounds : List Key) (entered : Entered) (name : Text) where
     resolve_tells resolver after now (Ok found) is by = met_tells resolver after now old.state.met found is by
     resolve_tells resolver after now (Err e) is same = told (same_own same) _ is tt
 
-  -- what a session is told that did this, where its line entered what it puts
-  pub act_tells : (old new : Seated) (resolver after : Known) (what : Op Text) (said : Said) → Own old.state
+  acts_tell : (old new : Seated) (resolver after : Known) (what : Op Text) (said : Said) → Own old.state
       → ((k : Key) (o : Option Value) → Enters (step.Act name what) name k o → entered name k o)
       → Acts bounds what old resolver said new after
       → TellsOwn (step.Act name what) new.seat.events (new.state, said)
-  act_tells old new resolver after (op.Put key value) said own more acts =
+  acts_tell old new resolver after (op.Put key value) said own more acts =
       edit_tells (step.Act name (op.Put key value)) old new said own (λ refused s. puts refused s key value)
       (λ refused. puts_by (entered name) refused old.state own key value (more key (Some value) (refl, refl, refl)))
       said refl acts.0
-  act_tells old new resolver after (op.Insert key value) said own more acts =
+  acts_tell old new resolver after (op.Insert key value) said own more acts =
       edit_tells (step.Act name (op.Insert key value)) old new said own (λ refused s. inserts refused s key value)
       (λ refused. inserts_so (entered name) refused old.state own key value (more key (Some value) (refl, refl, refl)))
       said refl acts.0
-  act_tells old new resolver after (op.Delete key) said own more acts =
+  acts_tell old new resolver after (op.Delete key) said own more acts =
       edit_tells (step.Act name (op.Delete key)) old new said own (λ refused s. deletes refused s key)
       (λ refused. deletes_by (entered name) refused old.state own key (more key None (refl, refl, refl)))
       said refl acts.0
-  act_tells old new resolver after (op.Lock key) said own more acts =
+  acts_tell old new resolver after (op.Lock key) said own more acts =
       edit_tells (step.Act name (op.Lock key)) old new said own (λ refused s. locks refused s key)
       (λ refused. locks_by (entered name) refused old.state own key) said refl acts.0
-  act_tells old new resolver after (op.Declare mode ttl max_commit) said own more acts =
+  acts_tell old new resolver after (op.Declare mode ttl max_commit) said own more acts =
       declare_tells (step.Act name (op.Declare mode ttl max_commit)) old new said own (is_declared old.state) _ acts.0
-  act_tells old new resolver after op.Draw said own more acts =
+  acts_tell old new resolver after op.Draw said own more acts =
       draw_tells (step.Act name op.Draw) old new said own (can_draw old.state) acts.0
-  act_tells old new resolver after (op.Resolve now) said own more acts =
+  acts_tell old new resolver after (op.Resolve now) said own more acts =
       resolve_tells (step.Act name (op.Resolve now)) old new said own resolver after now acts.0 acts.1 acts.2
-  act_tells old new resolver after op.Finish said own more acts =
+  acts_tell old new resolver after op.Finish said own more acts =
       told (step.Act name op.Finish) old new said own (same_own (step.Act name op.Finish) old new said own acts.0.1)
       (Err Order) acts.0.0 tt
-  act_tells old new resolver after op.Stop said own more acts =
+  acts_tell old new resolver after op.Stop said own more acts =
       told (step.Act name op.Stop) old new said own (same_own (step.Act name op.Stop) old new said own acts.0.1)
       (Err Order) acts.0.0 tt
+
+  -- what a session is told that did this, where its line entered what it puts
+  pub act_tells : (before : Entered) (old new : Seated) (resolver after : Known) (what : Op Text) (said : Said)
+      → Own old.state → ((k : Key) (o : Option Value) → Enters (step.Act name what) name k o → entered name k o)
+      → Acts bounds what old resolver said new after
+      → Own new.state × SaidTells bounds before new.seat.events (step.Act name what) said
+  act_tells before old new resolver after what said own more acts =
+      let tells = acts_tell old new resolver after what said own more acts in
+      (tells.0, said_act bounds entered before new.seat.events name what said tells.1)
 
   -- a session that has just begun tells of its start
   pub begin_tells : (what : Step Text) (old new : Known) (start : ℕ) → BeganAt bounds old start new

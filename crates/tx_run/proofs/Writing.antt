@@ -107,7 +107,8 @@ module _ {P X : Type 0} (f : X → List ℕ) (v : P → X) (xs : List P) (i : �
 
 pub from_played : (source old new : Option (List ℕ)) (seen : Seen) (replies : List LineReply) (total : ℕ)
     → IsWorldRun seen.bounds seen.events → TellsOutcomes seen.events replies → All (TellsPair source) replies
-    → AllTell source seen replies → TellsTotal seen replies total → WritesPart old new (IsTextOf replies total) → WritesPart old new (IsTextFrom source)
+    → AllTell source seen replies → TellsTotal seen replies total → WritesPart old new (IsTextOf replies total)
+    → WritesPart old new (IsTextFrom source)
 from_played source old new seen replies total run told pairs tells sum (inl kept) = inl kept
 from_played source old new seen replies total run told pairs tells sum (inr (text, is, part)) =
     inr (text, inr (seen, replies, total, run, told, pairs, tells, sum, is), part)

@@ -28,9 +28,9 @@ IsTooMany sessions cause = (cause ≡ Sessions) × (MAX_LIVE_SESSIONS ≤ sessio
 
 -- a line that was taken beside so many sessions has no fault; one that was not has this one, or it
 -- begins one session too many
-abbrev pub Takes : ℕ → List ℕ → ℕ → Result (Unit {0}) Cause → Type 0
-Takes number line sessions (Ok taken) = fault_of number line ≡ None
-Takes number line sessions (Err cause) =
+abbrev pub TakesLine : ℕ → List ℕ → ℕ → Result (Unit {0}) Cause → Type 0
+TakesLine number line sessions (Ok taken) = fault_of number line ≡ None
+TakesLine number line sessions (Err cause) =
     (fault_of number line ≡ Some cause) ⊎ ((fault_of number line ≡ None) × IsTooMany sessions cause)
 
 -- no line of the text before the one of this number has a fault

@@ -5,21 +5,24 @@ use Rattle.std.specs.Option.{option_to_list}
 use Rattle.std.specs.List.{AllPairs, flat_map}
 use Rattle.tx_core.specs.Histories.{History, Begins, drawer}
 use Rattle.tx_journal.specs.Known.{Known}
+use Rattle.tx_transaction.specs.Buffers.{Entries}
 use Rattle.tx_text.specs.Lines.{lines_of}
 use Rattle.tx_run.specs.declared.reply.LineAnswer.{LineAnswer}
 use Rattle.tx_run.specs.declared.reply.LineAnswer.TheVariants.{Plain, Ended}
 use Rattle.tx_run.specs.declared.reply.LineReply.{LineReply}
 use Rattle.tx_run.specs.Logs.{Logged, TellsBy}
 use Rattle.tx_run.specs.Answers.{Answers, EndsSo, IsReply, numbers_of}
-use Rattle.tx_run.specs.Reading.{firsts_of, sessions_of}
+use Rattle.tx_run.specs.ScriptLines.{firsts_of, sessions_of}
 
 -- a job at work: its number, its log, the number of the line of a transfer on its way, those of the
--- lines that are left in the order of the script, and whether a fault of the script ended it
+-- lines that are left in the order of the script, what its live session has entered, and whether a
+-- fault of the script ended it
 pub record Working : Type 0 where
   pub number : ℕ
   pub log : Logged
   pub going : Option ℕ
   pub left : List ℕ
+  pub entered : Entries
   pub faulted : Bool
 
 -- what a job came to: its number, its log, and whether a fault of the script ended it
@@ -40,7 +43,7 @@ pub record IsSound (j : Working) : Type 0 where
 
 -- It stays the same job, of the same seat, and what was lost stays lost, as a fault does. Where
 -- nothing is lost, its lines are those that it had, but for those behind a fault.
-pub record GoesOn (old new : Working) : Type 0 where
+pub record JobGoesOn (old new : Working) : Type 0 where
   pub number : new.number ≡ old.number
   pub seat : new.log.seat ≡ old.log.seat
   pub kept : new.log.lost ≡ false → old.log.lost ≡ false
@@ -48,9 +51,9 @@ pub record GoesOn (old new : Working) : Type 0 where
   pub lines : new.log.lost ≡ false → (behind : List ℕ)
       × (job_lines old ≡ job_lines new ++ behind) × (new.faulted ≡ false → behind ≡ [])
 
--- a job before it took the line of this number, with no transfer on its way
+-- a job before it took the line of this number, with nothing on its way
 abbrev pub with_line : ℕ → Working → Working
-with_line number j = record j { going = None; left = number ∷ j.left }
+with_line number j = record j { going = None; left = number ∷ j.left; entered = [] }
 
 -- it may answer a line: no transfer is on its way, and no fault ended it
 abbrev pub MayAnswer : Working → Type 0

@@ -8,7 +8,7 @@ pub mod Logs
 pub mod Outcomes
 pub mod Pairs
 pub mod Readers
-pub mod Reading
+pub mod ScriptLines
 pub mod Replies
 pub mod Scripts
 pub mod States

@@ -11,7 +11,7 @@ use Rattle.tx_transfer.specs.declared.source.Source.{Ghosts}
 use Rattle.tx_evidence.specs.Lines.{bounds_of}
 use Rattle.tx_run.specs.declared.script.ScriptReader.{ScriptReader}
 use Rattle.tx_run.specs.LineNumbers.{numbers_in}
-use Rattle.tx_run.specs.Reading.{session_of, session_names, sessions_of, seeds_of}
+use Rattle.tx_run.specs.ScriptLines.{session_of, session_names, sessions_of, seeds_of}
 
 -- the lines are kept, and a name has the index of its session, where it has one
 pub record Sorts (lines : List (List ℕ)) (index : Text → Option ℕ)

@@ -9,7 +9,8 @@ use Rattle.tx_evidence.specs.Lines.{step_by}
 
 -- the step of a run that the line of this number says, where the text has such a line
 abbrev pub step_at : List ℕ → ℕ → Option (Step Text)
-step_at text number = option_and_then (λ line. step_by Run (data_said number line)) (slice_get (lines_of text) (number - 1))
+step_at text number = option_and_then (λ line. step_by Run (data_said number line))
+    (slice_get (lines_of text) (number - 1))
 
 -- the line of this number says this step, or none; where the text is known
 abbrev pub Says : Option (List ℕ) → ℕ → Option (Step Text) → Type 0

@@ -120,8 +120,8 @@ IsTextFrom source text = IsFaultText source text
 -- ---- what is written
 
 -- such a text, and nothing else
-abbrev pub Writes : Option (List ℕ) → Option (List ℕ) → (List ℕ → Type 0) → Type 0
-Writes old new IsText = (text : List ℕ) × IsText text × Appends old new text
+abbrev pub WritesText : Option (List ℕ) → Option (List ℕ) → (List ℕ → Type 0) → Type 0
+WritesText old new IsText = (text : List ℕ) × IsText text × Appends old new text
 
 -- a beginning of such a text, or nothing
 abbrev pub WritesPart : Option (List ℕ) → Option (List ℕ) → (List ℕ → Type 0) → Type 0

@@ -1,12 +1,12 @@
 //! A session of a run, as a job of the workers: each line is a step. A transfer is mostly two: its
 //! reads, and then its writes.
 ghost use Rattle.std.specs.Prelude.{◌≡◌, ◌∷◌, map, is_some, [], None, Ok, true, false, IfErr, IfNone, IfOk, IfSome, OnErr, OnOk};
-ghost use Rattle.tx_run.specs.Jobs.{GoesOn, MayAnswer, Promises, job_lines, with_line};
+ghost use Rattle.tx_run.specs.Jobs.{JobGoesOn, MayAnswer, Promises, job_lines, with_line};
 ghost use Rattle.tx_run.specs.LineNumbers.{number_of};
 ghost use Rattle.tx_run.specs.Logs.{answer_to};
 ghost use Rattle.tx_run.specs.States.{going_of, buffer_of};
 ghost use Rattle.tx_run.specs.Readers.{HasSession};
-ghost use Rattle.tx_run.specs.Tells.{AreOf, EnteredBy, TellsLine, is_bare, session_name};
+ghost use Rattle.tx_run.specs.Tells.{AreEntered, AreOf, ComeLater, EnteredBy, TellsLine, is_refusal, session_name};
 ghost use Rattle.tx_run.specs.Steps.{SaysStep};
 ghost use Rattle.tx_run.specs.declared.reply.LineAnswer.TheVariants.{Plain};
 ghost use Rattle.tx_core.specs.Histories.{Begins};
@@ -38,7 +38,8 @@ use tx_transfer::{
 use tx_types::{Cause, Fault, Key};
 
 /// A session, the lines that are left of it, and what was answered. Contracts see its number, its
-/// log, which lines are left, whether a transfer is on its way, and whether a fault ended it.
+/// log, which lines are left, whether a transfer is on its way, what is entered, and whether a fault
+/// ended it.
 #[derive(Drop)]
 pub(crate) struct ScriptJob<J: JournalId, L: Source, F: Families + Drop, R: Wait + Drop> {
     number: u32,
@@ -67,6 +68,7 @@ impl<J: JournalId, L: Source, F: Families + Drop, R: Wait + Drop> Model for Scri
       log = j.log;
       going = going_of j.state (λ transfer. transfer.value);
       left = map number_of (reverse j.lines.items);
+      entered = buffer_of j.state (λ session. session.value.state.buffer);
       faulted = j.faulted;
     } };
 
@@ -75,6 +77,7 @@ impl<J: JournalId, L: Source, F: Families + Drop, R: Wait + Drop> Model for Scri
       log = j.log;
       going = going_of j.state (λ transfer. transfer.value);
       left = map number_of (reverse j.lines.items);
+      entered = buffer_of j.state (λ session. session.value.state.buffer);
       faulted = j.faulted;
     }) × Owns L.text j.number (map number_of (reverse j.lines.items))
         (buffer_of j.state (λ session. session.value.state.buffer)) };
@@ -113,9 +116,12 @@ impl<J: JournalId, L: Source, F: Families + Drop, R: Wait + Drop> ScriptJob<J, L
     // Is in this state from now on.
     fn set_state(&mut self, state: JobState<Seat<J>, Box<Session<J>>, Box<TransferState<J, L>>>)
         requires over { self.old.faulted ≡ true → going_of state (λ transfer. transfer.value) ≡ None }
-        requires own { AllBy (EnteredBy L.text self.old.number)
+        requires own { AreEntered L.text self.old.number self.old.left
             (buffer_of state (λ session. session.value.state.buffer)) }
-        ensures { self.new ≡ record self.old { going = going_of state (λ transfer. transfer.value) } }
+        ensures { self.new ≡ record self.old {
+          going = going_of state (λ transfer. transfer.value);
+          entered = buffer_of state (λ session. session.value.state.buffer);
+        } }
     {
         drop(replace(&mut self.state, state));
     }
@@ -123,10 +129,11 @@ impl<J: JournalId, L: Source, F: Families + Drop, R: Wait + Drop> ScriptJob<J, L
     // Takes the state, while it acts.
     fn take_state(&mut self) -> JobState<Seat<J>, Box<Session<J>>, Box<TransferState<J, L>>>
         ensures state { going_of result (λ transfer. transfer.value) ≡ self.old.going }
-        ensures own { AllBy (EnteredBy L.text self.old.number)
+        ensures entered { buffer_of result (λ session. session.value.state.buffer) ≡ self.old.entered }
+        ensures own { AreEntered L.text self.old.number self.old.left
             (buffer_of result (λ session. session.value.state.buffer)) }
         ensures over { self.old.faulted ≡ true → self.old.going ≡ None }
-        ensures taken { self.new ≡ record self.old { going = None } }
+        ensures taken { self.new ≡ record self.old { going = None; entered = [] } }
     {
         replace(&mut self.state, JobState::Taken)
     }
@@ -155,18 +162,18 @@ impl<J: JournalId, L: Source, F: Families + Drop, R: Wait + Drop> ScriptJob<J, L
     fn report(&mut self, number: u64, plain: PlainReply)
         requires may { MayAnswer self.old }
         requires tells { TellsLine L.text J.bounds self.old.log.told (answer_to number (Plain (Ok plain))) }
-        ensures { GoesOn (with_line number self.old) self.new }
+        ensures { JobGoesOn (with_line number self.old) self.new }
     {
         self.meet(&plain);
         self.log.keep(number, Ok(plain));
     }
 
-    // Keeps the answer of a line that says a step: that it was done, or why it was not.
-    fn report_bare(&mut self, number: u64, plain: PlainReply)
+    // Keeps the answer of a line that says a step: why it was not done.
+    fn report_refusal(&mut self, number: u64, plain: PlainReply)
         requires may { MayAnswer self.old }
         requires says { SaysStep L.text number }
-        requires bare { is_bare plain.reply ≡ true }
-        ensures { GoesOn (with_line number self.old) self.new }
+        requires refusal { is_refusal plain.reply ≡ true }
+        ensures { JobGoesOn (with_line number self.old) self.new }
     {
         self.report(number, plain);
     }
@@ -174,7 +181,7 @@ impl<J: JournalId, L: Source, F: Families + Drop, R: Wait + Drop> ScriptJob<J, L
     // A fault of the script ends the session.
     fn fail(&mut self, number: u64, cause: Cause)
         requires { MayAnswer self.old }
-        ensures { GoesOn (with_line number self.old) self.new }
+        ensures { JobGoesOn (with_line number self.old) self.new }
     {
         self.faulted = true;
         self.lines.clear();
@@ -185,7 +192,7 @@ impl<J: JournalId, L: Source, F: Families + Drop, R: Wait + Drop> ScriptJob<J, L
     fn on_answer(&mut self, number: u64, answer: Result<PlainReply, Cause>)
         requires may { MayAnswer self.old }
         requires tells { TellsLine L.text J.bounds self.old.log.told (answer_to number (Plain answer)) }
-        ensures { GoesOn (with_line number self.old) self.new }
+        ensures { JobGoesOn (with_line number self.old) self.new }
     {
         match answer {
             Ok(plain) => self.report(number, plain),
@@ -204,7 +211,7 @@ impl<J: JournalId, L: Source, F: Families + Drop, R: Wait + Drop> ScriptJob<J, L
         requires moves { MovesSome keys session.state }
         requires pair { HasPair L.text number keys }
         requires says { SaysStep L.text number }
-        ensures kept { OnOk result (GoesOn (with_line number self.old) self.new × MayAnswer self.new) }
+        ensures kept { OnOk result (JobGoesOn (with_line number self.old) self.new × MayAnswer self.new) }
         ensures none { OnErr result (self.new ≡ self.old) }
     {
         self.log
@@ -233,6 +240,9 @@ impl<J: JournalId, L: Source, F: Families + Drop, R: Wait + Drop> ScriptJob<J, L
             × (self.new.faulted ≡ false)) }
         ensures own { IfSome result
             (λ line. HasSession L.text (number_of line) (session_name L.text self.new.number)) }
+        ensures later { IfSome result (λ line. ComeLater L.text (number_of line) self.new.left) }
+        ensures entered { IfSome result
+            (λ line. AllBy (EnteredBy L.text self.new.number (number_of line)) self.new.entered) }
         ensures none { IfNone result (self.new ≡ self.old) }
     {
         self.lines.pop()
@@ -240,7 +250,7 @@ impl<J: JournalId, L: Source, F: Families + Drop, R: Wait + Drop> ScriptJob<J, L
 
     // Makes a line, unless a transfer is on its way.
     fn begin_line(&mut self)
-        ensures { GoesOn self.old self.new }
+        ensures { JobGoesOn self.old self.new }
     {
         if self.is_transferring() {
             return;
@@ -253,7 +263,7 @@ impl<J: JournalId, L: Source, F: Families + Drop, R: Wait + Drop> ScriptJob<J, L
     // Makes a line, unless a transfer is on its way, and the next requests of a transfer: where it
     // has just begun, these ask for no latch.
     fn advance(&mut self)
-        ensures { GoesOn self.old self.new }
+        ensures { JobGoesOn self.old self.new }
     {
         self.begin_line();
         let progress = self.advance_transfer();

@@ -6,7 +6,7 @@ ghost use Rattle.tx_run.specs.Outcomes.{TellsOutcomes};
 ghost use Rattle.tx_run.specs.Jobs.{IsAbove, AreAnswered, AreFalling, AreFrom, AreGathered, HaveOwnSeats, Joins};
 ghost use Rattle.tx_run.specs.Jobs.{ComesOf, job_lines};
 ghost use Rattle.tx_run.specs.LineNumbers.{numbers_in};
-ghost use Rattle.tx_run.specs.Reading.{opening_of};
+ghost use Rattle.tx_run.specs.ScriptLines.{opening_of};
 ghost use Rattle.tx_run.specs.Scripts.{IsWithin};
 ghost use Rattle.tx_run.specs.Pairs.{TellsPair};
 ghost use Rattle.tx_run.specs.Tells.{AreOwn, OpensWith, TellsLine};

@@ -6,9 +6,9 @@ ghost use Rattle.tx_evidence.specs.Lines.{bounds_by};
 ghost use Rattle.tx_run.specs.Scripts.{IsWithin};
 ghost use Rattle.tx_steps.specs.Lines.{bounds_in, data_of};
 ghost use Rattle.tx_steps.specs.Steps.{asked, IsApart};
-ghost use Rattle.tx_run.specs.Faults.{IsFaultless, IsTooMany, Takes, TellsFault, opens};
+ghost use Rattle.tx_run.specs.Faults.{IsFaultless, IsTooMany, TakesLine, TellsFault, opens};
 ghost use Rattle.tx_run.specs.LineNumbers.{number_of, numbers_in};
-ghost use Rattle.tx_run.specs.Reading.{KeepsText, name_in, step_of};
+ghost use Rattle.tx_run.specs.ScriptLines.{KeepsText, name_in, step_of};
 ghost use Rattle.tx_run.specs.Readers.{HasSession, HasSorted};
 ghost use Rattle.tx_run.specs.Steps.{SaysStep};
 ghost use Rattle.tx_transfer.specs.Sources.{HasLine, HasPair, pair_of};
@@ -232,7 +232,7 @@ impl<L: Source> ScriptReader<L> {
         ensures within { OnOk result (IsWithin self.new.script.bounds.items (vec_len self.new.script.sessions)) }
         ensures one { OnOk result (vec_len self.new.script.sessions ≤ vec_len self.old.script.sessions + 1) }
         ensures sorted { IfOk result (λ taken. OnOk taken (HasSorted L.text (number + 1) self.new)) }
-        ensures takes { IfOk result (λ taken. Takes number text.now (vec_len self.old.script.sessions) taken) }
+        ensures takes { IfOk result (λ taken. TakesLine number text.now (vec_len self.old.script.sessions) taken) }
     {
         let mut parts = Parts::new();
         let line = match Line::read(self.alloc, number, text, &mut parts)? {

@@ -1,8 +1,10 @@
 //! The seeds of a run, in the order of their lines.
-ghost use Rattle.std.specs.Prelude.{◌≡◌, ◌++◌, map, All, OnOk, true};
-ghost use Rattle.tx_core.specs.Histories.{History};
+ghost use Rattle.std.specs.Prelude.{◌≡◌, ◌++◌, map, All, Ok, IfOk, OnOk};
+ghost use Rattle.tx_core.specs.Histories.{Begins};
 ghost use Rattle.tx_run.specs.Answers.{IsReply, numbers_of};
-ghost use Rattle.tx_run.specs.Tells.{TellsLine, is_bare};
+ghost use Rattle.tx_run.specs.Logs.{answer_to};
+ghost use Rattle.tx_run.specs.Tells.{TellsLine};
+ghost use Rattle.tx_run.specs.declared.reply.LineAnswer.TheVariants.{Plain};
 
 use crate::reply::{LineAnswer, LineReply};
 use crate::session_line::ScriptLine;
@@ -13,22 +15,22 @@ use tx_steps::{Line, Program, Step};
 use tx_text::{Broken, Parts};
 use tx_transfer::{Context, PlainReply, Source, reply_to, seed};
 
-// Makes a seed's line.
+// Makes a seed's line: what it is told tells of what the seat then knows.
 fn play<J: JournalId, L: Source, F: Families + Drop, R: Wait + Drop>(
     seat: Seat<J>,
     context: &mut Context<J, F, R>,
     script_line: &ScriptLine<L>,
 ) -> (Seat<J>, PlainReply)
-    ensures { is_bare result.1.reply ≡ true }
+    ensures tells { TellsLine L.text J.bounds result.0.events (answer_to script_line.now.number (Plain (Ok result.1))) }
+    ensures knows { Begins seat.events result.0.events }
 {
     let mut parts = Parts::new();
-    let read = Line::read(
+    if let Ok(Ok(line)) = Line::read(
         context.alloc,
         script_line.number,
         script_line.text.as_slice(),
         &mut parts,
-    );
-    if let Ok(Ok(line)) = read {
+    ) {
         if let Some(Step::Seed(key, value)) = line.step(Program::Run) {
             let (seat, result) = seed(seat, context, key, value);
             return (seat, reply_to(result));
@@ -45,8 +47,8 @@ pub(crate) fn play_seeds<J: JournalId, L: Source, F: Families + Drop, R: Wait + 
     replies: &mut Vec<LineReply>,
 ) -> Result<Seat<J>, Broken>
     requires quiet { All (λ s. IsReply s.answer) replies.old.items }
-    requires tells { (h : History) → All (TellsLine L.text J.bounds h) replies.old.items }
-    ensures tells { OnOk result ((h : History) → All (TellsLine L.text J.bounds h) replies.new.items) }
+    requires tells { All (TellsLine L.text J.bounds seat.events) replies.old.items }
+    ensures tells { IfOk result (λ seat. All (TellsLine L.text J.bounds seat.events) replies.new.items) }
     ensures quiet { OnOk result (All (λ s. IsReply s.answer) replies.new.items) }
     ensures each { OnOk result
         (numbers_of replies.new.items ≡ numbers_of replies.old.items ++ map (λ line. line.number) seeds.now) }

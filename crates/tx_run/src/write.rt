@@ -6,7 +6,7 @@ ghost use Rattle.tx_text.specs.Faults.{fault_words};
 ghost use Rattle.tx_text.specs.Output.{AppendsPart};
 ghost use Rattle.tx_text.specs.Members.{reply_text};
 ghost use Rattle.tx_run.specs.Lines.{line_of};
-ghost use Rattle.tx_run.specs.Texts.{AreInOrder, IsTextOf, Writes, WritesPart, outcomes_text, total_text};
+ghost use Rattle.tx_run.specs.Texts.{AreInOrder, IsTextOf, WritesText, WritesPart, outcomes_text, total_text};
 
 use crate::counts::{RunCounts, counts_of, put_outcomes, put_total};
 use crate::play::RunResult;
@@ -94,7 +94,7 @@ pub(crate) fn write_all<W: Write>(
     played: &RunResult,
 ) -> Result<(), Broken>
     ensures all { OnOk result
-        (Writes (W.contents writer.old) (W.contents writer.new) (IsTextOf played.now.replies played.now.total)) }
+        (WritesText (W.contents writer.old) (W.contents writer.new) (IsTextOf played.now.replies played.now.total)) }
     ensures part { OnErr result
         (WritesPart (W.contents writer.old) (W.contents writer.new) (IsTextOf played.now.replies played.now.total)) }
 {

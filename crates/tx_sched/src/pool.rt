@@ -1,17 +1,17 @@
 //! The workers of a run.
 ghost use Rattle.std.specs.Prelude.{◌≡◌, ◌≤◌, [], Some, map, IfErr, IfOk, vec_len, vec_capacity, length};
 ghost use Rattle.tx_types.specs.declared.fault.Fault.TheVariants.{OutOfMemory};
-ghost use Rattle.tx_sched.specs.Promises.{AreDistinct, Kept, AreKept, IsOf, AreOf, count_missing};
+ghost use Rattle.tx_sched.specs.Promises.{AreDistinct, KeepsPromise, AreKept, IsOf, AreOf, count_missing};
 
-mod asking;
+mod requests;
 
 use crate::gate::Gate;
 use crate::job::Job;
 use crate::results::Results;
 use crate::shard::Shard;
 use crate::task::{Opening, Task};
-use asking::shard_of;
 use crossbeam_channel::{Receiver, Sender, bounded};
+use requests::shard_of;
 use std::alloc::Global;
 use std::collections::HashMap;
 use std::marker::Brand;
@@ -69,6 +69,47 @@ where
     alone: bool,
 }
 
+// The shards of a run of so many jobs, none of which has a latch yet.
+fn shards_of<J: Job, N: Opening<J>>(
+    alloc: Global,
+    count: usize,
+) -> Result<Vec<LockedShard<J, N>>, Fault>
+    requires { count ≡ length N.jobs }
+    ensures err { IfErr result (λ e. e ≡ OutOfMemory) }
+{
+    let mut shards = Vec::with_capacity(alloc, usize::from(SHARDS))?;
+    for _ in 0..SHARDS {
+        shards.push(LockedShard {
+            shard: Mutex::new(Shard::new(alloc, count)?),
+            apart: [0; 16],
+        })?;
+    }
+    Ok(shards)
+}
+
+// Puts each job on the ready queue: the index of each, by its number.
+fn enqueue<J: Job, N: Opening<J>, R: Wait>(
+    rt: &R,
+    alloc: Global,
+    queue: &Sender<Message<J, N>>,
+    jobs: Vec<J>,
+) -> Result<HashMap<u32, usize>, Fault>
+    requires { jobs.items ≡ N.jobs }
+    ensures err { IfErr result (λ e. e ≡ OutOfMemory) }
+{
+    let mut indexes = HashMap::new(alloc);
+    let mut index = 0;
+    for job in jobs {
+        indexes.insert(job.number(), index)?;
+        let task: Task<J, N> = Task::new(alloc, job, index)?;
+        if queue.send(rt, Message::Ready(task)).is_err() {
+            return Err(Fault::OutOfMemory);
+        }
+        index += 1;
+    }
+    Ok(indexes)
+}
+
 impl<J: Job, N: Opening<J>> Pool<J, N>
 where
     J::Out: Drop,
@@ -80,24 +121,9 @@ where
     {
         let count = jobs.len();
         let (queue, ready) = bounded(alloc, count.saturating_add(1))?;
-        let mut shards = Vec::with_capacity(alloc, usize::from(SHARDS))?;
-        for _ in 0..SHARDS {
-            shards.push(LockedShard {
-                shard: Mutex::new(Shard::new(alloc, count)?),
-                apart: [0; 16],
-            })?;
-        }
+        let shards = shards_of(alloc, count)?;
         let results = Results::new(alloc, count)?;
-        let mut indexes = HashMap::new(alloc);
-        let mut index = 0;
-        for job in jobs {
-            indexes.insert(job.number(), index)?;
-            let task: Task<J, N> = Task::new(alloc, job, index)?;
-            if queue.send(rt, Message::Ready(task)).is_err() {
-                return Err(Fault::OutOfMemory);
-            }
-            index += 1;
-        }
+        let indexes = enqueue(rt, alloc, &queue, jobs)?;
         Ok(Pool {
             queue,
             ready,
@@ -200,7 +226,7 @@ where
 
     /// Keeps the result of an index, and ends the run with the last one.
     fn finish<R: Wait>(&self, rt: &R, index: usize, out: J::Out)
-        requires { IsOf (Kept J.promised J.numbered J.tells) N.jobs index out }
+        requires { IsOf (KeepsPromise J.promised J.numbered J.tells) N.jobs index out }
     {
         let mut results = self.results.lock(rt);
         results.put(index, out);
@@ -228,7 +254,7 @@ where
         ensures err { IfErr result (λ e. e ≡ OutOfMemory) }
         ensures count { IfOk result (λ outs. vec_len outs ≡ length N.jobs) }
         ensures all { IfOk result (λ outs. count_missing outs.items ≡ 0) }
-        ensures each { IfOk result (λ outs. AreOf (Kept J.promised J.numbered J.tells) N.jobs outs.items) }
+        ensures each { IfOk result (λ outs. AreOf (KeepsPromise J.promised J.numbered J.tells) N.jobs outs.items) }
     {
         let mut results = self.results.lock(rt);
         for _ in rt.forever() {
@@ -269,7 +295,7 @@ where
     ensures err { IfErr result (λ e. e ≡ OutOfMemory) }
     ensures count { IfOk result (λ outs. vec_len outs ≡ length N.jobs) }
     ensures all { IfOk result (λ outs. count_missing outs.items ≡ 0) }
-    ensures each { IfOk result (λ outs. AreOf (Kept J.promised J.numbered J.tells) N.jobs outs.items) }
+    ensures each { IfOk result (λ outs. AreOf (KeepsPromise J.promised J.numbered J.tells) N.jobs outs.items) }
 {
     thread::scope(
         thread::scope_env(),
@@ -278,7 +304,7 @@ where
             ensures err { IfErr result (λ e. e ≡ OutOfMemory) }
             ensures count { IfOk result (λ outs. vec_len outs ≡ length N.jobs) }
             ensures all { IfOk result (λ outs. count_missing outs.items ≡ 0) }
-            ensures each { IfOk result (λ outs. AreOf (Kept J.promised J.numbered J.tells) N.jobs outs.items) }
+            ensures each { IfOk result (λ outs. AreOf (KeepsPromise J.promised J.numbered J.tells) N.jobs outs.items) }
         {
             for _ in 1..workers {
                 let _ = scope.spawn(move || pool.work(rt, gate));
@@ -302,7 +328,7 @@ where
     requires { jobs.items ≡ N.jobs }
     ensures err { IfErr result (λ e. e ≡ OutOfMemory) }
     ensures count { IfOk result (λ outs. vec_len outs ≡ length N.jobs) }
-    ensures each { IfOk result (λ outs. AreKept (Kept J.promised J.numbered J.tells) N.jobs outs.items) }
+    ensures each { IfOk result (λ outs. AreKept (KeepsPromise J.promised J.numbered J.tells) N.jobs outs.items) }
 {
     let outs = Vec::with_capacity(alloc, jobs.len())?;
     if jobs.is_empty() {
@@ -338,7 +364,7 @@ where
     requires distinct { AreDistinct J.numbered jobs.items }
     ensures err { IfErr result (λ e. e ≡ OutOfMemory) }
     ensures count { IfOk result (λ outs. vec_len outs ≡ vec_len jobs) }
-    ensures each { IfOk result (λ outs. AreKept (Kept J.promised J.numbered J.tells) jobs.items outs.items) }
+    ensures each { IfOk result (λ outs. AreKept (KeepsPromise J.promised J.numbered J.tells) jobs.items outs.items) }
 {
     run::<J, Brand, G, R>(rt, alloc, workers, jobs, gate)
 }

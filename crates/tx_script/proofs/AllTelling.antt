@@ -42,7 +42,8 @@ module _ (bounds : List Key) where
     lined what t x = turns.all_tell_more bounds (Replies bounds entered what) (LineReplies entered (Some what))
         (λ next said r. (inr (inr (what, said, refl, refl, r.0)), r.1)) t x
 
-    step_tells : (o : Option (Step Text)) → turns.AllTell bounds (LineReplies entered o) (step_turn bounds refused o engine)
+    step_tells : (o : Option (Step Text))
+        → turns.AllTell bounds (LineReplies entered o) (step_turn bounds refused o engine)
     step_tells None = tt
     step_tells (Some what) = lined what _ (turn_tells bounds entered engine own what refused)
 
@@ -64,7 +65,8 @@ module _ (bounds : List Key) where
       (λ next said left r x. subst (λ (q : Played). AllTell bounds entered q.history number (line ∷ lines) q.replies)
       (sym x.2) (
         refl,
-        line_on bounds entered next.network.history x.0.history (plays_begin bounds lines next (number + 1) left x.0 x.1)
+        line_on bounds entered next.network.history x.0.history
+            (plays_begin bounds lines next (number + 1) left x.0 x.1)
             (step_of (data_said (number + 1) line)) (reply_words said) r.0,
         plays_tell lines (entered_after (step_of (data_said (number + 1) line)) entered) next r.1 (number
             + 1) left x.0 x.1,

@@ -22,7 +22,7 @@ use Rattle.tx_engine.specs.Openings.{IsOpening}
 use Rattle.tx_script.specs.Checked.{IsBegun, step_lines, steps_told, EndsCheckedLines, BreaksCheckedLines}
 use Rattle.tx_script.specs.declared.asked.Asked.{Asked}
 use Rattle.tx_script.specs.declared.asked.Asked.TheVariants.{Replies, Steps, NumberedSteps}
-use Rattle.tx_script.specs.Loops.{Kept, EndsAt, AreOf, AppendsBegun, BreaksAsked}
+use Rattle.tx_script.specs.Loops.{BetweenLines, EndsAt, AreOf, AppendsBegun, BreaksAsked}
 use Rattle.tx_script.proofs.AllTelling.{is_play}
 use Rattle.tx_script.proofs.Ending.{all_came, breaks_first, if_some}
 
@@ -67,7 +67,7 @@ module _ (t : Noted) (e after : Held) (is : after ≡ with_trace (Some t) e) whe
 -- ---- in the end
 
 -- all has settled: nobody else acted, and what is newest is a run
-module _ (bounds : List Key) (e after : Held) (kept : Kept bounds e) (taken : after
+module _ (bounds : List Key) (e after : Held) (kept : BetweenLines bounds e) (taken : after
     ≡ with_trace None e) (settled : Settled bounds after) (seats : ℕ)
     (told : History) (is : told ≡ after.network.newest) (shown : IsWorldRun bounds told
     × AllOfSeats seats told) (count : seats ≡ length bounds + 2 + MAX_LIVE_SESSIONS) where

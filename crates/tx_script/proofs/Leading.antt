@@ -11,7 +11,7 @@ use Rattle.tx_transaction.specs.declared.state.Response.{Response}
 use Rattle.tx_transaction.specs.declared.state.Response.TheVariants as response
 use Rattle.tx_client.specs.Facts.{RespondsSo}
 use Rattle.tx_client.specs.Walks.{Walk, asks, grows, ends}
-use Rattle.tx_edits.specs.Edits.{is_refused, later_of}
+use Rattle.tx_ops.specs.Edits.{is_refused, later_of}
 use Rattle.tx_steps.specs.declared.delivery.Delivery.{Delivery}
 use Rattle.tx_steps.specs.declared.delivery.Delivery.TheVariants as deliveries
 use Rattle.tx_steps.specs.Steps.{Text}

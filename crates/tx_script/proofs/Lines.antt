@@ -14,7 +14,7 @@ use Rattle.tx_text.specs.declared.end.End.TheVariants.{Well, Faulted}
 use Rattle.tx_text.specs.declared.lines.Found.{Found}
 use Rattle.tx_text.specs.declared.lines.Found.TheVariants as found
 use Rattle.tx_reply.specs.declared.reply.ScriptReply.{ScriptReply}
-use Rattle.tx_text.specs.Lines.{lines_of, max_line, Reads}
+use Rattle.tx_text.specs.Lines.{lines_of, max_line, ReadsLine}
 use Rattle.tx_text.specs.Output.{BreaksText}
 use Rattle.tx_reply.specs.Replies.{reply_words}
 use Rattle.tx_text.specs.Members.{reply_text}
@@ -89,7 +89,7 @@ module _ (bounds : List Key) (number : ℕ) (line : List ℕ) (left : Option (Li
   reply_found found.End ahead reply fits is goes = absurd (cc (fits))
 
 -- what a read found of the lines that are left
-pub reads_ahead : (f : Found) (line : List ℕ) (bytes : List ℕ) (left : Option (List ℕ)) → Reads bytes left f line
+pub reads_ahead : (f : Found) (line : List ℕ) (bytes : List ℕ) (left : Option (List ℕ)) → ReadsLine bytes left f line
     → Ahead f line left (lines_of bytes)
 reads_ahead found.Line line bytes left (rest, left_is, short, is) = (rest, left_is, is)
 reads_ahead found.Long line bytes left (first, more, long, is) = (first, more, long, is)
@@ -186,12 +186,12 @@ module _ (bounds : List Key) (first0 : Found) (line0 : List ℕ) (left0 old : Op
               (Keeps-refl new') le)
 
           pub on_next : (f' : Found) (line' : List ℕ) (left' : Option (List ℕ))
-              → IfSome left (λ bytes. Reads bytes left' f' line') → On f' line' left' new' (number + 1) next
+              → IfSome left (λ bytes. ReadsLine bytes left' f' line') → On f' line' left' new' (number + 1) next
           on_next f' line' left' reads = λ lines a. (let (ahead, is, x) = on lines a in
               let (rest, left_is, at, go) = reply_found bounds (number + 1) line left e next f ahead reply fits is goes
               in (
                 lines_of rest,
-                reads_ahead f' line' rest left' (subst (λ o. IfSome o (λ bytes. Reads bytes left' f' line')) left_is
+                reads_ahead f' line' rest left' (subst (λ o. IfSome o (λ bytes. ReadsLine bytes left' f' line')) left_is
                     reads),
                 goes_on bounds lines line (lines_of rest) old new number e next c
                     (subst (λ l. PlaysOn bounds lines l old new number e) at x) reply go new' sent,

@@ -10,7 +10,7 @@ use Rattle.tx_core.proofs.seats.Beginnings.{run_beginning}
 use Rattle.tx_trace.specs.Traces.{Noted, Traces}
 use Rattle.tx_text.specs.declared.lines.Found.{Found}
 use Rattle.tx_text.specs.declared.lines.Found.TheVariants as found
-use Rattle.tx_text.specs.Lines.{lines_of, Reads}
+use Rattle.tx_text.specs.Lines.{lines_of, ReadsLine}
 use Rattle.tx_text.specs.Members.{reply_text}
 use Rattle.tx_reply.specs.declared.reply.ScriptReply.{ScriptReply}
 use Rattle.tx_reply.specs.Replies.{reply_words}
@@ -82,7 +82,7 @@ module _ (bounds : List Key) (first0 : Found) (line0 : List ℕ) (left0 old : Op
       follows le = exactly bounds number e next c _ go le
 
       next_numbers : (f' : Found) (line' : List ℕ) (left' : Option (List ℕ))
-          → IfSome left (λ bytes. Reads bytes left' f' line') → (count : ℕ)
+          → IfSome left (λ bytes. ReadsLine bytes left' f' line') → (count : ℕ)
           → Some count ≡ option_map (λ (t : Noted). length t.steps) next.network.trace → (numbers : List ℕ)
           → NumbersOn f line left new number e numbers
           → NumbersOn f' line' left' new' (number + 1) next (filled numbers count (number + 1))
@@ -92,7 +92,7 @@ module _ (bounds : List Key) (first0 : Found) (line0 : List ℕ) (left0 old : Op
           (run_beginning bounds e.network.newest next.network.newest run grew) lines a in
           let (rest, left_is, at) = reply_ahead f line left ahead reply fits is in (
             lines_of rest,
-            reads_ahead f' line' rest left' (subst (λ o. IfSome o (λ bytes. Reads bytes left' f' line')) left_is
+            reads_ahead f' line' rest left' (subst (λ o. IfSome o (λ bytes. ReadsLine bytes left' f' line')) left_is
                 reads),
             numbers_on bounds line number e next reply (follows le) lines (lines_of rest) old new numbers
                 (subst (λ l. NumbersSoFar bounds lines l old new number e numbers) at x) count
@@ -100,7 +100,7 @@ module _ (bounds : List Key) (first0 : Found) (line0 : List ℕ) (left0 old : Op
           ))
 
       pub numbers_next : (f' : Found) (line' : List ℕ) (left' : Option (List ℕ))
-          → IfSome left (λ bytes. Reads bytes left' f' line') → (made : Option ℕ)
+          → IfSome left (λ bytes. ReadsLine bytes left' f' line') → (made : Option ℕ)
           → made ≡ option_map (λ (t : Noted). length t.steps) next.network.trace → (olds news : Option (List ℕ))
           → NotesLine (number + 1) made olds news → IfSome olds (NumbersOn f line left new number e)
           → IfSome news (NumbersOn f' line' left' new' (number + 1) next)

@@ -12,8 +12,8 @@ use Rattle.tx_engine.specs.Slots.{Held, engine_state, own, AllSeated, Goes, Turn
 use Rattle.tx_engine.specs.Openings.{IsOpening}
 use Rattle.tx_engine.proofs.Keeping.{all_fewer}
 use Rattle.tx_script.specs.Play.{line_turn, Played, Plays, ending}
-use Rattle.tx_script.specs.Loops.{Kept}
-use Rattle.tx_script.specs.Players.{PlayerState, after, SoFar, HasPlayed, IsPlayer, EndWellWith}
+use Rattle.tx_script.specs.Loops.{BetweenLines}
+use Rattle.tx_script.specs.Players.{PlayerState, after, SoFar, HasPlayed, IsPlayer, IsFault, EndWellWith}
 use Rattle.tx_script.proofs.Scripts.{so_next}
 use Rattle.tx_script.proofs.AllTelling.{is_play}
 
@@ -44,7 +44,7 @@ module _ (bounds : List Key) where
   pub few : (p : PlayerState) → IsPlayer bounds p → p.number ≤ MAX_LINES
   few p (lines, done, has) = has.few
 
-  pub kept : (p : PlayerState) → IsPlayer bounds p → Kept bounds p.engine
+  pub kept : (p : PlayerState) → IsPlayer bounds p → BetweenLines bounds p.engine
   kept p (lines, done, has) = record {
     size = has.size;
     seated = all_fewer bounds p.left 0 p.engine (omega arith) has.seated;
@@ -81,6 +81,12 @@ module _ (bounds : List Key) where
           (so_next bounds lines done line old.number old.engine new.engine reply (has.so_far (before_too _ goes le))
           (exactly _ goes le));
     }
+
+    pub faults : (why : Cause)
+        → Goes bounds old.engine new.engine (TurnedBy bounds (λ refused. line_turn bounds refused (old.number + 1) line)
+        (Err why) old.engine new.engine) → length new.engine.network.newest ≤ own new.engine
+        → IsFault bounds old line why
+    faults why goes le refused = (exactly _ goes le).1 refused
 
     pub stays : (why : Cause) → new.number ≡ old.number
         → Goes bounds old.engine new.engine (TurnedBy bounds (λ refused. line_turn bounds refused (old.number + 1) line)

@@ -27,7 +27,7 @@ use Rattle.tx_engine.proofs.AllGrow.{leads_begin}
 use Rattle.tx_engine.proofs.Keeping.{all_fewer}
 use Rattle.tx_script.specs.Play.{line_turn, Played, before, ending, faulted, Plays, render}
 use Rattle.tx_script.specs.Players.{after, SoFar}
-use Rattle.tx_script.specs.Loops.{Kept, EndsAt, BreaksAt}
+use Rattle.tx_script.specs.Loops.{BetweenLines, EndsAt, BreaksAt}
 use Rattle.tx_script.proofs.OnePlay.{line_grows}
 
 pub if_err_is : {T E : Type 0} (P : E → Type 0) (r : Result T E) (e : E) → IsErrAnd r (λ y. y ≡ e) → P e → IfErr r P
@@ -89,7 +89,8 @@ module _ (bounds : List Key) where
   }
 
   -- a turn that goes on to an engine state leads to what is played from there
-  pub lead_to : (next : EngineState) (reply : ScriptReply) (later : List Bool) (Goes : EngineState → ScriptReply → List Bool
+  pub lead_to : (next : EngineState) (reply : ScriptReply) (later : List Bool)
+      (Goes : EngineState → ScriptReply → List Bool
       → Type 0) (Stops : Cause → Type 0) → Goes next reply later → (t : Transition)
       → Leads bounds (λ n said left. (n ≡ next) × (said ≡ reply) × (left ≡ later)) (λ c. ⊥) t
       → Leads bounds Goes Stops t
@@ -182,7 +183,7 @@ module _ (bounds : List Key) where
           refl,
         )
 
-  pub kept : (number : ℕ) (e : Held) → Counts number e → Kept bounds e
+  pub kept : (number : ℕ) (e : Held) → Counts number e → BetweenLines bounds e
   kept number e c = record {
     size = c.size;
     seated = all_fewer bounds c.left 0 e (omega arith) c.seated;
@@ -209,7 +210,7 @@ module _ (bounds : List Key) where
         }
 
     -- the line may be the last that is read
-    pub kept_after : number ≤ MAX_LINES → Kept bounds next
+    pub kept_after : number ≤ MAX_LINES → BetweenLines bounds next
     kept_after some =
         let less : ℕ = MAX_LINES - number in
         let is : c.left ≡ suc less = omega (arith, c.lines, some) in

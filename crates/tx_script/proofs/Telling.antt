@@ -23,14 +23,14 @@ use Rattle.tx_client.specs.Statuses.{lies_above}
 use Rattle.tx_client.specs.Facts.{RespondsSo}
 use Rattle.tx_client.specs.Walks.{Walk, heartbeat_walk, get_walk, scan_walk}
 use Rattle.tx_resolve.specs.declared.collector.Counts.{Counts}
-use Rattle.tx_resolve.specs.Reading.{read_walk}
-use Rattle.tx_resolve.specs.Collecting.{gc_walk}
-use Rattle.tx_edits.specs.Edits.{Edit, is_refused, later_of, puts, inserts, deletes, locks}
-use Rattle.tx_edits.specs.Edits as edit
+use Rattle.tx_resolve.specs.BlockedReads.{read_walk}
+use Rattle.tx_resolve.specs.Collection.{gc_walk}
+use Rattle.tx_ops.specs.Edits.{Edit, is_refused, later_of, puts, inserts, deletes, locks}
+use Rattle.tx_ops.specs.Edits as edit
+use Rattle.tx_ops.specs.Calls.{Said, call_walk}
 use Rattle.tx_steps.specs.declared.delivery.Delivery.{Delivery}
 use Rattle.tx_steps.specs.declared.delivery.Delivery.TheVariants as deliveries
 use Rattle.tx_steps.specs.declared.call.Call.{Call}
-use Rattle.tx_steps.specs.declared.call.Call.TheVariants as call
 use Rattle.tx_steps.specs.declared.op.Op.{Op}
 use Rattle.tx_steps.specs.declared.op.Op.TheVariants as op
 use Rattle.tx_steps.specs.declared.step.Step.{Step}
@@ -39,12 +39,13 @@ use Rattle.tx_steps.specs.Steps.{Text}
 use Rattle.tx_network.specs.Networks.{may_go}
 use Rattle.tx_reply.specs.declared.reply.ScriptReply.{ScriptReply}
 use Rattle.tx_reply.specs.declared.reply.ScriptReply.TheVariants as reply
-use Rattle.tx_engine.specs.Semantics.{SlotState, free, session, EngineState, Transition, goes, shows, calls, began, seat_at, read_by, said_by, missed_by, asked, runs_to, first_free, lives, at_slot, live_at, is_too_many, edited, sends_by, delivered_by, delivers, finishes_by, begins_at, in_session, turn, learns, learnt, resolves_by, collected_as}
+use Rattle.tx_engine.specs.Semantics.{SlotState, free, session, EngineState, Transition, goes, shows, calls, began, seat_at, asked, came, first_free, lives, at_slot, live_at, is_too_many, edited, sends_by, delivered_by, delivers, finishes_by, begins_at, in_session, turn, learns, learnt, resolves_by, collected_as}
 use Rattle.tx_evidence.specs.Tells.{Entered, entered_by, WasGiven, WasFound, TellsAnswer, TellsBy}
 use Rattle.tx_evidence.specs.Buffers.{AllBy}
 use Rattle.tx_evidence.proofs.Buffers.{IsRefusal, EntersBy, all_more, puts_by, inserts_so, deletes_by, locks_by}
 use Rattle.tx_script.proofs.Owning.{IsLive, AllOwn, own_more, own_set, own_begun, own_gone, first_is_free}
-use Rattle.tx_evidence.proofs.Coming.{Comes, Keeps, Told, ToldMay, Got, ByFault, due_comes, heartbeat_comes, get_comes, scan_comes, ScanTold, resolve_comes, gc_comes}
+use Rattle.tx_evidence.proofs.Calling.{TellsSaid, TellsOwn, call_comes}
+use Rattle.tx_evidence.proofs.Coming.{ByFault, resolve_comes, gc_comes}
 use Rattle.tx_script.proofs.Leading.{Since, since_same, AllTell, either, After, asked_tells, runs_tell}
 
 -- a step's reply tells of what has then happened, and each session has what was entered under its
@@ -101,30 +102,13 @@ module _ (bounds : List Key) (entered : Entered) (engine : EngineState)
         at_name None named = tt
         at_name (Some k) named = at_place k (slice_get engine.slots k) named refl
 
-    -- the requests of a session's call
-    run_tells : {R : Type 0} (Q : History → R → Type 0) (say : R → ScriptReply) (name : Text) (k : ℕ) (s : SessionState)
-        → IsLive engine.names engine.slots name k s → (delivery : Delivery Text) (refused : List Bool)
-        (w : Walk (SessionState × R)) → Comes (Keeps entered name Q) engine.network.history w
-        → ((h : History) (r : R) → Q h r → TellsBy bounds entered h what (say r))
-        → Turn (runs_to bounds say k delivery refused engine w)
-    run_tells Q say name k s live delivery refused w comes tell =
-        runs_tell bounds (Replies bounds entered what) (Keeps entered name Q) delivery refused engine w _ comes
-        (λ x next left since q. (tell next.network.history x.1 q.1, set_on name k s x.0 live q.0 next since))
-
-    missed_tells : (h : History) (m : Miss) → TellsBy bounds entered h what (missed_by m)
-    missed_tells h miss.Lost = tt
-    missed_tells h miss.Fault = tt
-
-    read_tells : (h : History) (r : Result Answer Miss) → Told (λ l a. TellsAnswer bounds entered l what a) h r
-        → TellsBy bounds entered h what (read_by r)
-    read_tells h (Ok a) told = told
-    read_tells h (Err m) told = missed_tells h m
-
-    said_tells : (h : History) (r : Result (Option Answer) Miss)
-        → ToldMay (λ l a. TellsAnswer bounds entered l what a) h r → TellsBy bounds entered h what (said_by r)
-    said_tells h (Ok None) told = tt
-    said_tells h (Ok (Some a)) told = told
-    said_tells h (Err m) told = missed_tells h m
+    -- what a session's call came to
+    came_tells : (name : Text) (k : ℕ) (s : SessionState) → IsLive engine.names engine.slots name k s
+        → (t : SessionState) (said : Said) (next : EngineState) (left : List Bool) → Since engine next
+        → AllBy (entered name) t.buffer → TellsSaid bounds entered name what next.network.history said
+        → Turn (came k t said next left)
+    came_tells name k s live t (Ok said) next left since by told = (told, set_on name k s t live by next since)
+    came_tells name k s live t (Err c) next left since by told = tt
 
     refusal_tells : (h : History) (said : ScriptReply) → IsRefusal said → TellsBy bounds entered h what said
     refusal_tells h reply.OutOfMemory is = tt
@@ -227,39 +211,12 @@ module _ (bounds : List Key) (entered : Entered) (engine : EngineState)
       (s : SessionState) → IsLive engine.names engine.slots name k s
       → AllTell bounds (Replies bounds entered (step.Send name what delivery))
       (sends_by refused engine k s bounds what delivery)
-  send_tells name (call.Get key) delivery refused k s live =
-      (let it : Step Text = step.Send name (call.Get key) delivery in
-      or it (not (is_key key)) _ _ (tt, stay it)
-      (calls_tell it refused (λ left. runs_to bounds read_by k delivery left engine (get_walk s key))
-      (λ left. run_tells it (Told (Got entered name key)) read_by name k s live delivery left
-      (get_walk s key) (get_comes entered name engine.network.history s (own.own name k s live) key) (read_tells it))))
-  send_tells name (call.Scan from to limit) delivery refused k s live =
-      (let it : Step Text = step.Send name (call.Scan from to limit) delivery in
-      or it (not (is_key from && is_key to)) _ _ (tt, stay it)
-      (calls_tell it refused (λ left. runs_to bounds read_by k delivery left engine (scan_walk s bounds from to limit))
-      (λ left. run_tells it (Told (ScanTold bounds entered name from to limit delivery)) read_by
-      name k s live delivery left (scan_walk s bounds from to limit)
-      (scan_comes bounds entered name from to limit delivery engine.network.history s (own.own name k s live))
-      (read_tells it))))
-  send_tells name call.Prewrite delivery refused k s live =
-      (let it : Step Text = step.Send name call.Prewrite delivery in
-      or it (is_declared s) _ _ (run_tells it (ToldMay WasGiven) said_by name k s live delivery refused _
-      (due_comes entered name engine.network.history s (own.own name k s live) phase.Prewrite (due_prewrite s))
-      (said_tells it)) tt)
-  send_tells name call.Commit delivery refused k s live =
-      (let it : Step Text = step.Send name call.Commit delivery in
-      or it (can_commit s) _ _ (run_tells it (ToldMay WasGiven) said_by name k s live delivery refused _
-      (due_comes entered name engine.network.history s (own.own name k s live) phase.Commit (due_commit s))
-      (said_tells it)) tt)
-  send_tells name call.Abort delivery refused k s live =
-      (let it : Step Text = step.Send name call.Abort delivery in
-      or it (can_abort s) _ _ (run_tells it (ToldMay WasGiven) said_by name k s live delivery refused _
-      (due_comes entered name engine.network.history s (own.own name k s live) phase.Abort (due_abort s))
-      (said_tells it)) tt)
-  send_tells name (call.Heartbeat ttl) delivery refused k s live =
-      (let it : Step Text = step.Send name (call.Heartbeat ttl) delivery in
-      or it (has_primary s) _ _ (run_tells it (ToldMay WasGiven) said_by name k s live delivery refused
-      (heartbeat_walk s ttl) (heartbeat_comes entered name engine.network.history s (own.own name k s live) ttl) (said_tells it)) tt)
+  send_tells name what delivery refused k s live =
+      let it : Step Text = step.Send name what delivery in
+      runs_tell bounds (Replies bounds entered it) (TellsOwn bounds entered name it) delivery refused engine
+      (call_walk bounds s what) (λ x next left. came k x.0 x.1 next left)
+      (call_comes bounds entered name engine.network.history s (own.own name k s live) what delivery)
+      (λ x next left since told. came_tells it name k s live x.0 x.1 next left since told.0 told.1)
 
   begin_tells : (name : Text) (refused : List Bool) (o : Option ℕ) → first_free engine.slots ≡ o
       → AllTell bounds (Replies bounds entered (step.Begin name)) (begins_at bounds refused engine name o)

@@ -62,7 +62,7 @@ FitsFound found.Long t = t ≡ turned.Stops cause.Long
 FitsFound found.End t = t ≡ turned.End
 
 -- what is counted of an engine between two lines
-pub record Kept (bounds : List Key) (e : Held) : Type 0 where
+pub record BetweenLines (bounds : List Key) (e : Held) : Type 0 where
   pub size : length e.slots ≡ MAX_LIVE_SESSIONS
   pub seated : AllSeated bounds 0 e
   pub counts : own e ≤ length e.network.newest

@@ -1,14 +1,15 @@
 -- A player, which plays lines one after another: each is tried, and a fault leaves it as it was.
-use Rattle.std.specs.Prelude.{◌≡◌, ◌≤◌, ℕ, List, ◌++◌, Bool, length}
+use Rattle.std.specs.Prelude.{◌≡◌, ◌≤◌, ◌+◌, ℕ, List, ◌++◌, Bool, length}
 use Rattle.serde_json.specs.Data.{Items}
+use Rattle.tx_types.specs.declared.fault.Cause.{Cause}
 use Rattle.tx_types.specs.declared.key.Key.{Key}
 use Rattle.tx_types.specs.declared.limits.TheConstants.{MAX_LIVE_SESSIONS, MAX_LINES}
 use Rattle.tx_text.specs.declared.end.End.TheVariants.{Well}
 use Rattle.tx_text.specs.Lines.{lines_of}
-use Rattle.tx_engine.specs.Semantics.{opening}
+use Rattle.tx_engine.specs.Semantics.{opening, stops}
 use Rattle.tx_engine.specs.Slots.{Held, engine_state, own, AllSeated}
 use Rattle.tx_evidence.specs.Lines.{bounds_of}
-use Rattle.tx_script.specs.Play.{Played, Plays, IsPlay}
+use Rattle.tx_script.specs.Play.{line_turn, Played, Plays, IsPlay}
 
 -- what a player has: its engine, how many lines it has played, and how many more it may try
 pub record PlayerState : Type 0 where
@@ -36,6 +37,11 @@ module _ (bounds : List Key) where
     pub seated : AllSeated bounds p.left p.engine
     pub counts : own p.engine ≤ length p.engine.network.newest
     pub so_far : length p.engine.network.newest ≤ own p.engine → SoFar lines done p.number p.engine
+
+  -- the next line is a fault for this cause: it stops where the player stands, whatever is refused
+  abbrev pub IsFault : PlayerState → List ℕ → Cause → Type 0
+  IsFault p line cause = (refused : List Bool)
+      → line_turn bounds refused (p.number + 1) line (engine_state p.engine) ≡ stops cause
 
   -- it has played some lines
   abbrev pub IsPlayer : PlayerState → Type 0

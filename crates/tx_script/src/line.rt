@@ -1,5 +1,5 @@
 //! One line of a script, from its bytes to its reply.
-ghost use Rattle.std.specs.Prelude.{◌≡◌, ◌≤◌, option_map, is_some, OnOk, IfOk, IfErr, OnErr};
+ghost use Rattle.std.specs.Prelude.{◌≡◌, ◌≤◌, option_map, is_some, Ok, Err, OnOk, IfOk, IfErr, OnErr, MatchResult};
 ghost use Rattle.tx_types.specs.declared.limits.TheConstants as limits;
 ghost use Rattle.std.specs.Io.KnownBytes.{Appends};
 ghost use Rattle.tx_text.specs.Faults.{fault_words};
@@ -7,7 +7,7 @@ ghost use Rattle.tx_text.specs.Output.{BreaksText};
 ghost use Rattle.tx_reply.specs.Replies.{reply_words};
 ghost use Rattle.tx_text.specs.Members.{reply_text};
 ghost use Rattle.tx_steps.specs.Steps.{asked};
-ghost use Rattle.tx_steps.specs.Lines.{data_of, bounds_in};
+ghost use Rattle.tx_steps.specs.Lines.{data_of, data_said, bounds_in};
 ghost use Rattle.tx_engine.specs.Slots.{AllSeated, Goes, TurnedBy};
 ghost use Rattle.tx_script.specs.Play.{step_turn, value_turn, line_turn};
 ghost use Rattle.tx_script.specs.Loops.{FoundTurned, FitsFound};
@@ -50,7 +50,8 @@ fn play_step<J: JournalId, F: Families>(
 #[cold]
 #[inline(never)]
 fn says_regions(alloc: Global, said: &Line<'_, '_>) -> Result<bool, Broken>
-    ensures { IfOk result (λ says. says ≡ is_some (bounds_in (data_of said.now))) }
+    ensures ok { IfOk result (λ says. says ≡ is_some (bounds_in (data_of said.now))) }
+    ensures err { IfErr result (λ why. why ≡ Broken.Memory) }
 {
     match said.bounds(alloc) {
         Ok(bounds) => Ok(bounds.is_some()),
@@ -70,11 +71,29 @@ fn play_said<J: JournalId, F: Families>(
         (TurnedBy J.bounds (λ refused. value_turn J.bounds refused number (data_of said.now)) turned engine.old
         engine.new)) }
     ensures same { OnErr result (engine.new ≡ engine.old) }
+    ensures err { IfErr result (λ why. why ≡ Broken.Memory) }
 {
     if number == 1 && says_regions(alloc, said)? {
         return Ok(Ok(ScriptReply::Regions(engine.regions())));
     }
     Ok(play_step(engine, said.step(Program::Simulate)))
+}
+
+/// Reads the line of this number. It breaks off only where memory was refused.
+pub(crate) fn read_said<'p, 'a>(
+    alloc: Global,
+    number: u64,
+    line: &'a [u8],
+    parts: &'p mut Parts<'a>,
+) -> Result<Result<Line<'p, 'a>, Cause>, Broken>
+    ensures ok { IfOk result (λ found. MatchResult found (λ l. data_said number line.now ≡ Ok (data_of l))
+        (λ cause. data_said number line.now ≡ Err cause)) }
+    ensures err { IfErr result (λ why. why ≡ Broken.Memory) }
+{
+    match Line::read(alloc, number, line, parts) {
+        Ok(found) => Ok(found),
+        Err(_) => Err(Broken::Memory),
+    }
 }
 
 /// Plays the line of this number.
@@ -89,9 +108,10 @@ pub(crate) fn play_line<J: JournalId, F: Families>(
         (TurnedBy J.bounds (λ refused. line_turn J.bounds refused number line.now) turned engine.old engine.new)) }
     ensures early { IfOk result (λ turned. OnOk turned (number ≤ limits.MAX_LINES)) }
     ensures same { OnErr result (engine.new ≡ engine.old) }
+    ensures err { IfErr result (λ why. why ≡ Broken.Memory) }
 {
     let mut parts = Parts::new();
-    match Line::read(alloc, number, line, &mut parts)? {
+    match read_said(alloc, number, line, &mut parts)? {
         Err(cause) => Ok(Err(cause)),
         Ok(said) => play_said(alloc, engine, number, &said),
     }

@@ -13,6 +13,7 @@ ghost use Rattle.tx_script.specs.Numbered.{EndsNumbered, BreaksNumbered};
 ghost use Rattle.tx_script.specs.Loops.{Ahead, first_bounds, EndsAsked, BreaksAsked};
 
 use crate::asked::Asked;
+use crate::line::read_said;
 use crate::script::{check_over, number_over, simulate_over};
 use std::alloc::Global;
 use std::io::{BufRead, Write};
@@ -20,7 +21,6 @@ use std::marker::Brand;
 use tx_cells::{Families, Makes, make_families};
 use tx_engine::{Engine, engine_of};
 use tx_journal::{JournalId, Opened};
-use tx_steps::Line;
 use tx_text::{Broken, End, Found, Parts, read_line};
 use tx_types::Key;
 use tx_types::limits::MAX_LIVE_SESSIONS;
@@ -31,9 +31,10 @@ pub fn bounds_in(alloc: Global, line: &[u8]) -> Result<Vec<Key>, Broken>
     ensures bounds { IfOk result (λ bounds. bounds.items ≡ bounds_of (line.now ∷ [])) }
     ensures rising { IfOk result (λ bounds. AreRising bounds.items) }
     ensures few { IfOk result (λ bounds. length bounds.items < limits.MAX_REGIONS) }
+    ensures err { IfErr result (λ why. why ≡ Broken.Memory) }
 {
     let mut parts = Parts::new();
-    match Line::read(alloc, 1, line, &mut parts)? {
+    match read_said(alloc, 1, line, &mut parts)? {
         Err(_) => Ok(Vec::new(alloc)),
         Ok(said) => match said.bounds(alloc) {
             Err(_) => Err(Broken::Memory),
@@ -69,6 +70,7 @@ pub(crate) fn engine_over<J: JournalId, F: Families + Drop>(
     ensures slots { IfOk result (λ e. length e.slots ≡ limits.MAX_LIVE_SESSIONS) }
     ensures ready { IfOk result (λ e. (n : ℕ) → n ≤ 4294967296 → AllSeated J.bounds n e) }
     ensures seats { IfOk result (λ _. J.seats ≡ length J.bounds + 2 + limits.MAX_LIVE_SESSIONS) }
+    ensures err { IfErr result (λ why. why ≡ Broken.Memory) }
 {
     let Ok((journal, seats)) = opened.named::<J>(alloc) else {
         return Err(Broken::Memory);

@@ -1,10 +1,11 @@
 //! A player: lines are tried one after another, and one that is a fault leaves it as it was.
-ghost use Rattle.std.specs.Prelude.{◌≡◌, ◌+◌, ◌≤◌, ℕ, List, [], ◌∷◌, ◌++◌, All, vec_len, length, IfOk, OnOk, OnErr};
+ghost use Rattle.std.specs.Prelude.{◌≡◌, ◌+◌, ◌≤◌, ◌⊎◌, ℕ, List, [], ◌∷◌, ◌++◌, All, vec_len, length, IfOk, IfErr, OnOk, OnErr};
 ghost use Rattle.serde_json.specs.Data.{Items};
 ghost use Rattle.tx_types.specs.declared.limits.TheConstants as limits;
 ghost use Rattle.tx_cells.specs.Contents.{nothing_held};
 ghost use Rattle.tx_reply.specs.Replies.{reply_words};
-ghost use Rattle.tx_script.specs.Players.{PlayerState, HasPlayed, IsPlayer, EndWellWith};
+ghost use Rattle.tx_engine.specs.Slots.{own};
+ghost use Rattle.tx_script.specs.Players.{PlayerState, HasPlayed, IsPlayer, IsFault, EndWellWith};
 
 use crate::line::play_line;
 use crate::opening::engine_over;
@@ -56,7 +57,8 @@ impl<J: JournalId, F: Families + Drop> Player<J, F> {
         requires few { vec_len families ≡ length opened.bounds + 1 }
         requires seats { opened.seats ≡ length opened.bounds + 2 + limits.MAX_LIVE_SESSIONS }
         requires empty { All (λ f. F.content f ≡ (λ k. nothing_held)) families.items }
-        ensures { IfOk result (λ p. HasPlayed J.bounds [] [] p) }
+        ensures played { IfOk result (λ p. HasPlayed J.bounds [] [] p) }
+        ensures err { IfErr result (λ why. why ≡ Broken.Memory) }
     {
         let engine = engine_over::<J, F>(alloc, opened, families)?;
         Ok(Player {
@@ -83,11 +85,16 @@ impl<J: JournalId, F: Families + Drop> Player<J, F> {
         ensures plays { IfOk result (λ said. IfOk said (λ reply. (lines : List (List ℕ)) (done : List (ℕ × Items))
             → HasPlayed J.bounds lines done self.old → HasPlayed J.bounds (lines ++ line.now ∷ [])
             (done ++ (self.new.number, reply_words reply) ∷ []) self.new)) }
+        // It is a fault, for this cause, or too many were tried.
+        ensures faults { IfOk result (λ said. IfErr said (λ cause. ((cause ≡ Cause.Lines) × (self.old.left ≡ 0))
+            ⊎ (length self.new.engine.network.newest ≤ own self.new.engine
+            → IsFault J.bounds self.old line.now cause))) }
         // A fault, or want of memory: it has played the same.
         ensures stays { IfOk result (λ said. OnErr said ((lines : List (List ℕ)) (done : List (ℕ × Items))
             → HasPlayed J.bounds lines done self.old → HasPlayed J.bounds lines done self.new)) }
         ensures breaks { OnErr result ((lines : List (List ℕ)) (done : List (ℕ × Items))
             → HasPlayed J.bounds lines done self.old → HasPlayed J.bounds lines done self.new) }
+        ensures err { IfErr result (λ why. why ≡ Broken.Memory) }
     {
         if self.left == 0 {
             return Ok(Err(Cause::Lines));

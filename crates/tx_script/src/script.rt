@@ -8,7 +8,7 @@ ghost use Rattle.tx_network.specs.Networks.{IsTraced};
 ghost use Rattle.tx_script.specs.Play.{EndsLines, BreaksLines};
 ghost use Rattle.tx_script.specs.Checked.{EndsCheckedLines, BreaksCheckedLines};
 ghost use Rattle.tx_script.specs.Numbered.{EndsNumberedLines, BreaksNumberedLines};
-ghost use Rattle.tx_script.specs.Loops.{Ahead, Kept, EndsAt, BreaksAt, NumberedAt};
+ghost use Rattle.tx_script.specs.Loops.{Ahead, BetweenLines, EndsAt, BreaksAt, NumberedAt};
 
 use crate::checked::write_rest;
 use crate::line::{Turned, play_found, write_fault, write_reply};
@@ -38,7 +38,7 @@ fn play_lines<J: JournalId, F: Families, R: BufRead, W: Write>(
     requires slots { length engine.old.slots ≡ limits.MAX_LIVE_SESSIONS }
     requires ready { AllSeated J.bounds (limits.MAX_LINES + 1) engine.old }
     requires none { IfSome (option_map (λ v. v.items) numbers.old) (λ ns. ns ≡ []) }
-    ensures kept { Kept J.bounds engine.new }
+    ensures kept { BetweenLines J.bounds engine.new }
     ensures traced { length engine.new.network.newest ≤ own engine.new → IsTraced engine.old.network
         → IsTraced engine.new.network }
     ensures ends { IfOk result (λ end. length engine.new.network.newest ≤ own engine.new → (lines : List (List ℕ))
@@ -80,7 +80,7 @@ fn play_lines<J: JournalId, F: Families, R: BufRead, W: Write>(
 /// Ends the play: nobody else acted, so that what is newest is no more than was made here, and a run
 /// of the protocol. The machine's steps of it, where they were kept.
 pub(crate) fn close<J: JournalId, F: Families + Drop>(engine: Engine<J, F>) -> Option<Trace>
-    requires kept { Kept J.bounds engine }
+    requires kept { BetweenLines J.bounds engine }
     requires seats { J.seats ≡ length J.bounds + 2 + limits.MAX_LIVE_SESSIONS }
     ensures came { length engine.network.newest ≤ own engine }
     ensures run { IsWorldRun J.bounds engine.network.newest }

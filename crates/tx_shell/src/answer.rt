@@ -1,6 +1,6 @@
 //! A command over an input and an output: what was written is handed on before more is read.
 use crate::asked::Invocation;
-use crate::failing::{Failing, Stopped};
+use crate::failure::{Failing, Stopped};
 use crate::perform::perform;
 use std::cell::{Cell, RefCell};
 use std::io::{BufWriter, Read, Write};

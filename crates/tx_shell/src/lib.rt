@@ -6,11 +6,11 @@
 mod answer;
 mod asked;
 mod cells;
-mod failing;
+mod counter;
+mod failure;
 mod generated;
 mod perform;
 mod program;
 mod stats;
-mod watching;
 
 pub use program::txkv;

@@ -4,9 +4,9 @@ use crate::cells::{
     converse_over, explain_over, run_over, simulate_checked_over, simulate_numbered_over,
     simulate_over,
 };
+use crate::counter::Watching;
 use crate::generated::generate_script;
 use crate::stats::stats_of;
-use crate::watching::Watching;
 use std::io::{BufRead, Write};
 use std::sync::Wait;
 use std::thread::Threads;

@@ -15,7 +15,7 @@ use Rattle.tx_types.specs.Keys.{key_lt, IsRising, value_in, is_visible}
 use Rattle.tx_machine.proofs.Basics.{key_test}
 use Rattle.tx_plan.proofs.KeyOrder.{key_same, lt_trans, lt_itself, le_cases, not_lt, lt_other, other_key}
 use Rattle.tx_simple.specs.Ranges.{row_of, row_with, with_value, is_first_of, entry_in, value_of, over, AreEntered}
-use Rattle.tx_simple.proofs.Paging.{rising_rest}
+use Rattle.tx_laws.proofs.Paging.{rising_rest}
 
 -- all rows lie above a key
 abbrev AreAbove : Key → List KeyValue → Type 0
@@ -55,7 +55,8 @@ row_first : (k : Key) (o : Option Value) (xs : List KeyValue) → AreAbove k xs 
 row_first k None xs above = none_above k xs above
 row_first k (Some v) xs above = rw (key_same k) refl
 
-row_rising : (k : Key) (o : Option Value) (xs : List KeyValue) → AreAbove k xs → IsRising xs → IsRising (row_of k o ++ xs)
+row_rising : (k : Key) (o : Option Value) (xs : List KeyValue) → AreAbove k xs → IsRising xs
+    → IsRising (row_of k o ++ xs)
 row_rising k None xs above r = r
 row_rising k (Some v) xs above r = rising_by (record { key = k; value = v }) xs above r
 
@@ -106,7 +107,8 @@ with_rising [] k (Some v) r = tt
 with_rising (x ∷ xs) k o r = elim (cases_Bool (key_lt x.key k)) [
   | inl below ↦ rw below (rising_by x (with_value xs k o) (with_above x.key xs k o below (above_rest x xs r))
       (with_rising xs k o (rising_rest x xs r)))
-  | inr not_below ↦ rw not_below (let both = rest_above x xs k r not_below in row_rising k o (rest_of x xs k) both.0 both.1)
+  | inr not_below ↦ rw not_below (let both =
+      rest_above x xs k r not_below in row_rising k o (rest_of x xs k) both.0 both.1)
 ]
 
 -- they tell it there
@@ -262,7 +264,8 @@ module _ (test : Key → Bool) (old : List KeyValue) where
       | inr other ↦ ap (λ o. over o (value_in old k)) (entry_other cs c k other.0)
     ])
 
-    pub passed_later : list_any (λ (d : Change). bytes_eq d.key c.key) cs ≡ true → AreEntered test (cs ++ c ∷ []) old new
+    pub passed_later : list_any (λ (d : Change). bytes_eq d.key c.key) cs ≡ true
+        → AreEntered test (cs ++ c ∷ []) old new
     passed_later before = passed (λ k inside. elim (entry_or (entry_in cs k)) [
       | inl there ↦ ap (λ o. over o (value_in old k)) (entry_first cs c k there.0 there.1 ∙ sym there.1)
       | inr none ↦ elim (key_test c.key k) [

@@ -31,9 +31,9 @@ use Rattle.tx_client.specs.Walks.{Walk, asks, grows, ends, then_walk, Sends, due
 use Rattle.tx_client.specs.Calls.{Seated, HasHeard, BeganAt, Draws, RecordsDeclared}
 use Rattle.tx_client.specs.declared.resolved.Status.{Status}
 use Rattle.tx_client.specs.Statuses.{Stopping}
-use Rattle.tx_resolve.specs.Reading.{read_walk}
-use Rattle.tx_simple.specs.Meeting.{Resolves}
-use Rattle.tx_simple.specs.Updates.{AnswersNoEffect, GoesWithoutEffect, GoesOn, Follows}
+use Rattle.tx_resolve.specs.BlockedReads.{read_walk}
+use Rattle.tx_simple.specs.MetLock.{Resolves}
+use Rattle.tx_simple.specs.Updates.{AnswersNoEffect, GoesWithoutEffect, SeatGoesOn, Follows}
 
 -- ---- histories
 
@@ -72,29 +72,29 @@ recorded_begins bounds i l h e r =
 
 -- ---- seats
 
-pub goes_itself : (k : Known) → GoesOn k k
+pub goes_itself : (k : Known) → SeatGoesOn k k
 goes_itself k = record { number = refl; knows = extends_without k.seat k.events k.events (extends_all k.seat k.events) }
 
-pub goes_same : (k new : Known) → new ≡ k → GoesOn k new
-goes_same k new same = subst (λ (z : Known). GoesOn k z) (sym same) (goes_itself k)
+pub goes_same : (k new : Known) → new ≡ k → SeatGoesOn k new
+goes_same k new same = subst (λ (z : Known). SeatGoesOn k z) (sym same) (goes_itself k)
 
-pub goes_more : (a b c : Known) → GoesOn a b → GoesOn b c → GoesOn a c
+pub goes_more : (a b c : Known) → SeatGoesOn a b → SeatGoesOn b c → SeatGoesOn a c
 goes_more a b c p q = record {
   number = q.number ∙ p.number;
   knows = without_more a.seat a.events b.events c.events p.knows
       (subst (λ (i : ℕ). GoesWithoutEffect i b.events c.events) p.number q.knows);
 }
 
-pub goes_begins : (old new : Known) → GoesOn old new → Begins old.events new.events
+pub goes_begins : (old new : Known) → SeatGoesOn old new → Begins old.events new.events
 goes_begins old new g = without_begins old.seat old.events new.events g.knows
 
 module _ (bounds : List Key) where
-  learnt : (k new : Known) (reached : Reached) → Learns bounds k reached new → GoesOn k new
+  learnt : (k new : Known) (reached : Reached) → Learns bounds k reached new → SeatGoesOn k new
   learnt k new (Err l) same = goes_same k new same
   learnt k new (Ok g) (number, ticks, seen, told, given) =
       record { number = number; knows = seen_without bounds k.seat k.events new.events seen }
 
-  pub heard_goes : (old new : Known) (told : History) → HasHeard bounds old told new → GoesOn old new
+  pub heard_goes : (old new : Known) (told : History) → HasHeard bounds old told new → SeatGoesOn old new
   heard_goes old new told h =
       record { number = h.number; knows = seen_without bounds old.seat old.events new.events h.seen }
 
@@ -104,11 +104,11 @@ module _ (bounds : List Key) where
       (without_begins old.seat old.events b.mid (drawn_without bounds old.seat old.events b.mid 1 start b.drew))
       (recorded_begins bounds old.seat b.mid new.events (Began start) b.began)
 
-  pub draws_goes : (old new : Known) (c : ℕ) → Draws bounds old c new → GoesOn old new
+  pub draws_goes : (old new : Known) (c : ℕ) → Draws bounds old c new → SeatGoesOn old new
   draws_goes old new c d =
       record { number = d.number; knows = drawn_without bounds old.seat old.events new.events 1 c d.drawn }
 
-  pub declares_goes : (old new : Known) (o : Option Declaration) → RecordsDeclared bounds old o new → GoesOn old new
+  pub declares_goes : (old new : Known) (o : Option Declaration) → RecordsDeclared bounds old o new → SeatGoesOn old new
   declares_goes old new None same = goes_same old new same
   declares_goes old new (Some d) w = record {
     number = w.number;
@@ -120,7 +120,7 @@ module _ (bounds : List Key) where
 module _ {S : Type 0} (sends : S → Asked → Reached → S → Type 0) (bounds : List Key) where
   -- who sends goes on
   pub sent_goes : {R : Type 0} (w : Walk R) (k new : Known) (from to : S) (r : R) → Sends sends bounds k from w r to new
-      → GoesOn k new
+      → SeatGoesOn k new
   sent_goes (ends x) k new from to r (is, same, at) = goes_same k new at
   sent_goes (grows more short) k new from to r (inl sent) = sent_goes short k new from to r sent
   sent_goes (grows more short) k new from to r (inr sent) = sent_goes more k new from to r sent
@@ -324,7 +324,7 @@ follows_learn bounds old new t may told is after_answer =
 -- a seat resolves a lock
 pub resolves_goes : {S : Type 0} (sends : S → Asked → Reached → S
     → Type 0) (bounds : List Key) (k new : Known) (from to : S) (met : Stopping) (reader now : ℕ) (result : Status)
-    → Resolves sends bounds k from met reader now result to new → GoesOn k new
+    → Resolves sends bounds k from met reader now result to new → SeatGoesOn k new
 resolves_goes sends bounds k new from to met reader now result (mid, learnt, sent) =
     goes_more k mid new (record {
       number = learnt.seat;
@@ -358,7 +358,7 @@ follows_draw bounds old new c is draws =
 pub resolved_goes : {S : Type 0} (sends : S → Asked → Reached → S
     → Type 0) (bounds : List Key) (old mid new : Known) (from to : S) (met : Stopping) (reader now : ℕ) (result :
     Status) → mid.seat ≡ old.seat → HasSeen bounds old.seat old.events mid.events
-    → Resolves sends bounds mid from met reader now result to new → GoesOn old new
+    → Resolves sends bounds mid from met reader now result to new → SeatGoesOn old new
 resolved_goes sends bounds old mid new from to met reader now result number seen resolves =
     goes_more old mid new (record { number = number; knows = seen_without bounds old.seat old.events mid.events seen })
     (resolves_goes sends bounds mid new from to met reader now result resolves)

@@ -20,7 +20,7 @@ use Rattle.tx_client.specs.Calls.{Seated, Records, IsDecidedSo}
 use Rattle.tx_client.specs.Facts.{standing}
 use Rattle.tx_client.specs.Order.{IsDrawnAfter, CommitsAbove}
 use Rattle.tx_journal.specs.Known.{Known}
-use Rattle.tx_simple.specs.Updates.{IsWithoutEffect, CameToNothing, GoesOn, Follows, Writes, Ends, CommitsAboveKnown}
+use Rattle.tx_simple.specs.Updates.{IsWithoutEffect, CameToNothing, SeatGoesOn, Follows, MayHaveDeclared, EndedWith, CommitsAboveKnown}
 use Rattle.tx_simple.proofs.Going.{goes_more, goes_begins}
 
 -- what declares nothing has no primary
@@ -49,13 +49,13 @@ some_entered old new same some =
     second false c e = absurd (cc (e))
 
 -- a session that went on, and declared nothing
-pub writes_nothing : (old new : Seated) → is_declared old.state ≡ false → Follows old new → Writes old new
+pub writes_nothing : (old new : Seated) → is_declared old.state ≡ false → Follows old new → MayHaveDeclared old new
 writes_nothing old new none f =
     record { seat = f.seat; start = f.start; placed = inl (nothing_declared new.state (ap is_some f.declared ∙ none)) }
 
 -- a session that declared, and went on
-pub writes_placed : (old mid new : Seated) → GoesOn old.seat mid.seat → mid.state.start ≡ old.state.start
-    → IsDrawnAfter old.seat.events mid.seat.events mid.state.placed → Follows mid new → Writes old new
+pub writes_placed : (old mid new : Seated) → SeatGoesOn old.seat mid.seat → mid.state.start ≡ old.state.start
+    → IsDrawnAfter old.seat.events mid.seat.events mid.state.placed → Follows mid new → MayHaveDeclared old new
 writes_placed old mid new goes start after f = record {
   seat = goes_more old.seat mid.seat new.seat goes f.seat;
   start = f.start ∙ start;
@@ -72,7 +72,7 @@ known_on a b more (outcome.Unknown why) above = tt
 known_on a b more outcome.ReadOnly above = tt
 
 -- a session that went on before it declared
-pub writes_after : (a b c : Seated) → Follows a b → Writes b c → Writes a c
+pub writes_after : (a b c : Seated) → Follows a b → MayHaveDeclared b c → MayHaveDeclared a c
 writes_after a b c f w = record {
   seat = goes_more a.seat b.seat c.seat f.seat w.seat;
   start = w.start ∙ f.start;
@@ -84,8 +84,8 @@ writes_after a b c f w = record {
 }
 
 -- a session that declared nothing worth a number
-pub writes_empty : (old new : Seated) → GoesOn old.seat new.seat → new.state.start ≡ old.state.start
-    → has_primary new.state ≡ false → Writes old new
+pub writes_empty : (old new : Seated) → SeatGoesOn old.seat new.seat → new.state.start ≡ old.state.start
+    → has_primary new.state ≡ false → MayHaveDeclared old new
 writes_empty old new goes start none = record { seat = goes; start = start; placed = inl none }
 
 -- what is not declared stands as nothing
@@ -124,7 +124,7 @@ came_to_nothing session outcome.ReadOnly stands is decided none = inl (stands
 -- what was committed lies above what was known
 pub above_known : (bounds : List Key) (old new : Seated) (end : Outcome) → IsWorldRun bounds new.seat.events
     → declared new.seat.events new.state.start
-    ≡ standing new.state.start new.state.placed new.state.buffer new.state.declared → Writes old new
+    ≡ standing new.state.start new.state.placed new.state.buffer new.state.declared → MayHaveDeclared old new
     → IsDecidedSo new.seat.events new.state.start end → CommitsAbove new.seat.events new.state.placed end
     → CommitsAboveKnown old.seat.events end
 above_known bounds old new (outcome.Committed c) run stands w decided order = by w.placed
@@ -146,10 +146,11 @@ pub ended_so : (bounds : List Key) (begun session : Seated) (end : Outcome) (t :
     → IsWorldRun bounds session.seat.events
     → declared session.seat.events session.state.start
     ≡ standing session.state.start session.state.placed session.state.buffer session.state.declared
-    → Writes begun session → t ≡ session.state.start
+    → MayHaveDeclared begun session → t ≡ session.state.start
     → (finish_of session.state ≡ Some end) × Records bounds session.seat (Answered session.state.start end) new
     × IsDecidedSo session.seat.events session.state.start end
-    → CommitsAbove session.seat.events session.state.placed end → (ends : Ends bounds begun.seat t end new) × (ends.session ≡ session)
+    → CommitsAbove session.seat.events session.state.placed end → (ends : EndedWith bounds begun.seat t end new)
+    × (ends.session ≡ session)
 ended_so bounds begun session end t new run stands writes is (outcome, recorded, decided) order = (
   record {
     session = session;

@@ -17,9 +17,11 @@ use Rattle.tx_core.proofs.seats.Beginnings.{begins_all, begins_more}
 use Rattle.tx_transaction.specs.declared.state.Terms.{Terms}
 use Rattle.tx_transaction.specs.Buffers.{Entries, buffered, changes_of, is_known}
 use Rattle.tx_transaction.specs.Sessions.{declaration}
-use Rattle.tx_simple.specs.Ranges.{AreEntered, AreRowsOf, begin_of, entry_in, greatest, is_in_range, over, row_of}
+use Rattle.tx_laws.specs.Rows.{AreRowsOf}
+use Rattle.tx_simple.specs.Ranges.{AreEntered, begin_of, entry_in, greatest, is_in_range, over, row_of}
 use Rattle.tx_simple.specs.Reads.{Beneath, Finds, FindsRange, SeesOn}
-use Rattle.tx_simple.proofs.Paging.{and_split, between_both, le_trans, same_keys, tells_more, top_with, top_without}
+use Rattle.tx_laws.proofs.Paging.{and_split, between_both, le_trans, same_keys, tells_more}
+use Rattle.tx_simple.proofs.Paging.{top_with, top_without}
 
 -- what each run from then on shows, each later one does
 pub sees_later : (bounds : List Key) (old new : History) (start : ℕ) → Begins old new → (k : Key) (o : Option Value)
@@ -53,65 +55,85 @@ over_found (Some mutation.Delete) h start k o seen = refl
 over_found (Some mutation.Lock) h start k o seen = seen
 over_found None h start k o seen = seen
 
-module _ (bounds : List Key) (entries : Entries) (known : History) (run : IsWorldRun bounds known) (start : ℕ) where
-  now : (k : Key) (o : Option Value) → SeesOn bounds known start k o → Beneath entries known start k o
-  now k o sees = beneath_seen entries known start k o (sees known (begins_all known) run)
+-- ---- the rows of a range, from those of its pages
 
+module _ (bounds : List Key) (known : History) (start : ℕ) (tells : Key → Option Value → Type 0) (now : (k : Key) (o :
+    Option Value) → SeesOn bounds known start k o → tells k o) where
   -- the rows of a range that ends below a key
-  pub upto_key : (from to : Key) (rows : List KeyValue)
+  pub range_upto : (from to : Key) (rows : List KeyValue)
       → AreRowsOf (is_between from to) (SeesOn bounds known start) rows
-      → AreRowsOf (is_in_range (Some from) (Some to)) (Beneath entries known start) rows
-  upto_key from to rows h =
-      same_keys (Beneath entries known start) (is_between from to) (is_in_range (Some from) (Some to)) (λ k e. e) (λ k e. e)
-      rows (tells_more (SeesOn bounds known start) (Beneath entries known start) now (is_between from to) rows h)
+      → AreRowsOf (is_in_range (Some from) (Some to)) tells rows
+  range_upto from to rows h =
+      same_keys tells (is_between from to) (is_in_range (Some from) (Some to)) (λ k e. e) (λ k e. e) rows
+      (tells_more (SeesOn bounds known start) tells now (is_between from to) rows h)
 
   module _ (old : History) (begins : Begins old known) (from top : Key) (is : top ≡ greatest) (rows : List KeyValue)
       (h : AreRowsOf (is_between from top) (SeesOn bounds old start) rows) where
-    below_top : AreRowsOf (is_between from top) (Beneath entries known start) rows
+    below_top : AreRowsOf (is_between from top) tells rows
     below_top =
-        tells_more (SeesOn bounds old start) (Beneath entries known start)
+        tells_more (SeesOn bounds old start) tells
         (λ k o sees. now k o (sees_later bounds old known start begins k o sees)) (is_between from top) rows h
 
     -- the keys up to the greatest
-    upto_top : (all : List KeyValue)
-        → AreRowsOf (λ k. key_le from k && key_le k top) (Beneath entries known start) all
-        → AreRowsOf (is_in_range (Some from) None) (Beneath entries known start) all
+    upto_top : (all : List KeyValue) → AreRowsOf (λ k. key_le from k && key_le k top) tells all
+        → AreRowsOf (is_in_range (Some from) None) tells all
     upto_top all it =
-        same_keys (Beneath entries known start) (λ k. key_le from k && key_le k top) (is_in_range (Some from) None)
+        same_keys tells (λ k. key_le from k && key_le k top) (is_in_range (Some from) None)
         (λ k e. subst (λ t. IsTrue (key_le from k && key_le k t)) is e)
         (λ k e. subst (λ t. IsTrue (key_le from k && key_le k t)) (sym is) e) all it
 
     -- the rows of a range up to the greatest key, with the row of that
-    pub with_top : IsTrue (key_le from top) → (o : Option Value)
-        → Finds (buffered entries top) known start top o
-        → AreRowsOf (is_in_range (Some from) None) (Beneath entries known start) (rows ++ row_of top o)
-    with_top up None found =
-        subst (AreRowsOf (is_in_range (Some from) None) (Beneath entries known start)) (sym (append_none rows))
-        (upto_top rows (top_without (Beneath entries known start) from top up rows below_top
-        (beneath_found (buffered entries top) known start top None found)))
+    pub range_with_top : IsTrue (key_le from top) → (o : Option Value) → tells top o
+        → AreRowsOf (is_in_range (Some from) None) tells (rows ++ row_of top o)
+    range_with_top up None told =
+        subst (AreRowsOf (is_in_range (Some from) None) tells) (sym (append_none rows))
+        (upto_top rows (top_without tells from top up rows below_top told))
       where
         append_none : (xs : List KeyValue) → xs ++ [] ≡ xs
         append_none [] = refl
         append_none (x ∷ xs) = ap (λ (ys : List KeyValue). x ∷ ys) (append_none xs)
-    with_top up (Some v) found =
-        upto_top (rows ++ row_of top (Some v)) (top_with (Beneath entries known start) from top up rows below_top v
-        (beneath_found (buffered entries top) known start top (Some v) found))
+    range_with_top up (Some v) told =
+        upto_top (rows ++ row_of top (Some v)) (top_with tells from top up rows below_top v told)
 
-module _ (bounds : List Key) (entries : Entries) (known : History) (start : ℕ) where
-  -- a range that begins above the greatest key has no row
-  pub above_top : (old : History) (from top : Key) → top ≡ greatest → IsTrue (key_lt top from) → (rows : List KeyValue)
-      → AreRowsOf (is_between from top) (SeesOn bounds old start) rows
-      → AreRowsOf (is_in_range (Some from) None) (Beneath entries known start) rows
-  above_top old from top is above rows h = record {
-    rising = h.rising;
-    within = λ k v e. absurd (let both = between_both from top k (h.within k v e) in
-        lt_itself from (le_lt from k from both.0 (lt_trans k top from both.1 above)));
-    each = λ k inside. absurd (
-        let both = and_split (key_le from k) (key_le k greatest) inside in
-        let below : IsTrue (key_le k top) = subst (λ t. IsTrue (key_le k t)) (sym is) both.1 in
-        lt_itself top (lt_then_le top from top above (le_trans from k top both.0 below))
-        );
-  }
+-- a range that begins above the greatest key has no row
+pub range_above : (tells also : Key → Option Value → Type 0) (from top : Key) → top ≡ greatest → IsTrue (key_lt top from)
+    → (rows : List KeyValue) → AreRowsOf (is_between from top) tells rows
+    → AreRowsOf (is_in_range (Some from) None) also rows
+range_above tells also from top is above rows h = record {
+  rising = h.rising;
+  within = λ k v e. absurd (let both = between_both from top k (h.within k v e) in
+      lt_itself from (le_lt from k from both.0 (lt_trans k top from both.1 above)));
+  each = λ k inside. absurd (
+      let both = and_split (key_le from k) (key_le k greatest) inside in
+      let below : IsTrue (key_le k top) = subst (λ t. IsTrue (key_le k t)) (sym is) both.1 in
+      lt_itself top (lt_then_le top from top above (le_trans from k top both.0 below))
+      );
+}
+
+-- ---- the same, beneath what was entered
+
+module _ (bounds : List Key) (entries : Entries) (known : History) (run : IsWorldRun bounds known) (start : ℕ) where
+  now : (k : Key) (o : Option Value) → SeesOn bounds known start k o → Beneath entries known start k o
+  now k o sees = beneath_seen entries known start k o (sees known (begins_all known) run)
+
+  pub upto_key : (from to : Key) (rows : List KeyValue)
+      → AreRowsOf (is_between from to) (SeesOn bounds known start) rows
+      → AreRowsOf (is_in_range (Some from) (Some to)) (Beneath entries known start) rows
+  upto_key from to rows h = range_upto bounds known start (Beneath entries known start) now from to rows h
+
+  pub with_top : (old : History) → Begins old known → (from top : Key) → top ≡ greatest → (rows : List KeyValue)
+      → AreRowsOf (is_between from top) (SeesOn bounds old start) rows → IsTrue (key_le from top)
+      → (o : Option Value) → Finds (buffered entries top) known start top o
+      → AreRowsOf (is_in_range (Some from) None) (Beneath entries known start) (rows ++ row_of top o)
+  with_top old begins from top is rows h up o found =
+      range_with_top bounds known start (Beneath entries known start) now old begins from top is rows h up o
+      (beneath_found (buffered entries top) known start top o found)
+
+pub above_top : (bounds : List Key) (entries : Entries) (known : History) (start : ℕ) (old : History) (from top : Key)
+    → top ≡ greatest → IsTrue (key_lt top from) → (rows : List KeyValue)
+    → AreRowsOf (is_between from top) (SeesOn bounds old start) rows
+    → AreRowsOf (is_in_range (Some from) None) (Beneath entries known start) rows
+above_top bounds entries known start old = range_above (SeesOn bounds old start) (Beneath entries known start)
 
 -- ---- what was entered
 

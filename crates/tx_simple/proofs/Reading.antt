@@ -32,7 +32,7 @@ use Rattle.tx_laws.specs.Scans.{scan_at}
 use Rattle.tx_laws.specs.Told.{Says}
 use Rattle.tx_laws.proofs.Standing.{answer_seen}
 use Rattle.tx_laws.proofs.Scanned.{sees_whole}
-use Rattle.tx_simple.specs.Ranges.{AreRowsOf}
+use Rattle.tx_laws.specs.Rows.{AreRowsOf}
 use Rattle.tx_simple.specs.Reads.{Finds, AnswersRead, AnswersScan, SeesOn, TellsPage}
 
 -- what a call came to, a state and a result
@@ -90,7 +90,8 @@ module _ {S : Type 0} (bounds : List Key) (fits : S → Asked → Type 0) (sends
     by_reached then_known mid (Ok g) sent learns e =
         by_response then_known learns.2.run (response_by g.answer)
         (came_told bounds g (read_of s key) then_known.events learns.4
-        (ap (λ (q : Asked). q.body) (way.answers a mid (record { by = k.events; body = read_of s key }) g sent)) learns.3) e
+        (ap (λ (q : Asked). q.body) (way.answers a mid (record { by = k.events; body = read_of s key }) g sent))
+        learns.3) e
 
   by_entered : (entered : Option Mutation) → Sends sends bounds k a (get_by s key entered) (after, Ok r) b new
       → AnswersRead entered new.events s.start key r
@@ -137,7 +138,8 @@ scan_finds bounds fits sends keys_between rising way k new a b s after from to l
 scan_finds bounds fits sends keys_between rising way k new a b s after from to limit r run sent = tt
 
 -- rows that each run from then on shows are those of their range
-pub page_told : (bounds : List Key) (known : History) → IsWorldRun bounds known → (start : ℕ) (from to : Key) (limit : ℕ)
+pub page_told : (bounds : List Key) (known : History) → IsWorldRun bounds known
+    → (start : ℕ) (from to : Key) (limit : ℕ)
     → (rows : List KeyValue)
     → ((h : History) → Begins known h → IsWorldRun bounds h
     → SeesRows (table_of (shadow h)).row (scan_at start from to limit rows))
@@ -181,7 +183,8 @@ module _ {S : Type 0} (bounds : List Key) (fits : S → Asked → Type 0) (sends
       → IfOk r (AnswersScan new.seat.events start from to limit)
   if_scan_finds rising run from to limit (Ok x) sent =
       subst (λ n. AnswersScan new.seat.events n from to limit x) start_is
-      (scan_finds bounds fits sends keys_between rising way old.seat new.seat a b old.state new.state from to limit x run
+      (scan_finds bounds fits sends keys_between rising way old.seat new.seat a b old.state new.state from to limit x
+      run
       sent)
   if_scan_finds rising run from to limit (Err why) sent = tt
 
@@ -191,6 +194,7 @@ module _ {S : Type 0} (bounds : List Key) (fits : S → Asked → Type 0) (sends
       → IfOk r (TellsPage bounds new.seat.events start from to limit)
   if_scan_tells rising run from to limit (Ok x) sent =
       subst (λ n. TellsPage bounds new.seat.events n from to limit x) start_is
-      (scan_tells bounds fits sends keys_between rising way old.seat new.seat a b old.state new.state from to limit x run
+      (scan_tells bounds fits sends keys_between rising way old.seat new.seat a b old.state new.state from to limit x
+      run
       sent)
   if_scan_tells rising run from to limit (Err why) sent = tt

@@ -1,5 +1,5 @@
 -- How a try ends after tries that came to nothing, so the whole ends.
-use Rattle.std.proofs.Common.{◌≡◌, ◌≤◌, ◌+◌, arith, ℕ, zero, suc, List, Option, Result, Ok, Err, IfOk, IfErr, refl, sym, ap, subst, ◌∙◌}
+use Rattle.std.proofs.Common.{◌≡◌, ◌≤◌, ◌+◌, arith, ℕ, zero, suc, true, List, Option, Result, Ok, Err, IfOk, IfErr, refl, sym, ap, subst, ◌∙◌}
 use Rattle.tx_types.specs.declared.key.Key.{Key}
 use Rattle.tx_core.specs.declared.event.Event.TheVariants.{Answered}
 use Rattle.tx_core.specs.Histories.{Begins}
@@ -13,7 +13,8 @@ use Rattle.tx_simple.specs.declared.ending.Seats.{Seats}
 use Rattle.tx_simple.specs.declared.ending.Ended.{Ended}
 use Rattle.tx_simple.specs.declared.ending.Unended.{Unended}
 use Rattle.tx_simple.specs.declared.ending.Unended.TheVariants.{Spent, Open}
-use Rattle.tx_simple.specs.Updates.{IsWithoutEffect, GoesOn, Writes, Works, ComesToNothing, TriesInVain}
+use Rattle.tx_simple.specs.Failures.{may_go_further}
+use Rattle.tx_simple.specs.Updates.{IsWithoutEffect, SeatGoesOn, MayHaveDeclared, Works, ComesToNothing, TriesInVain}
 use Rattle.tx_simple.specs.Endings.{EndsFrom, EndsOver, IsOpen, StaysOpen, IsUnended}
 use Rattle.tx_simple.proofs.Going.{goes_itself, goes_more, goes_begins, began_begins, recorded_begins}
 use Rattle.tx_simple.proofs.Placing.{known_on}
@@ -50,7 +51,7 @@ module _ {J W O E : Type 0} (does : W → Entries → Result O (Failure E) → E
   -- the seats, and the work, after at most so many tries in vain
   abbrev pub InVain : ℕ → Seats J → W → Seats J → W → Type 0
   InVain upto old v new w = (n : ℕ) × (n ≤ upto) × TriesInVain does bounds terms n old.begins new.begins v w
-      × GoesOn old.resolves new.resolves
+      × SeatGoesOn old.resolves new.resolves
 
   pub vain_itself : (seats : Seats J) (w : W) → InVain 0 seats w seats w
   vain_itself seats w = (0, omega arith, (refl, refl), goes_itself seats.resolves)
@@ -58,8 +59,8 @@ module _ {J W O E : Type 0} (does : W → Entries → Result O (Failure E) → E
   -- a session began over the seats, and has no outcome
   pub unended_in : (old : Seats J) (begun session : Seated) (resolves : Known) (value : Option O) (stop : Option (Failure E)) (r :
       Result (Ended J O E) (Unended J E)) (v w : W) → BeganAt bounds old.begins begun.state.start begun.seat
-      → Writes begun session → Works does bounds terms begun session value stop v w
-      → GoesOn old.resolves resolves → IfErr r (IsOpen session resolves stop)
+      → MayHaveDeclared begun session → Works does bounds terms begun session value stop v w
+      → SeatGoesOn old.resolves resolves → IfErr r (IsOpen session resolves stop)
       → IfErr r (λ (u : Unended J E). IsUnended does bounds terms old v 0 u w)
   unended_in old begun session resolves value stop (Ok e) v w began writes works goes is = tt
   unended_in old begun session resolves value stop (Err (Spent s)) v w began writes works goes is = absurd is
@@ -77,7 +78,7 @@ module _ {J W O E : Type 0} (does : W → Entries → Result O (Failure E) → E
           works = subst (λ (o : Option (Failure E)). Works does bounds terms begun session value o v w) (sym is.3) works;
           none = is.0;
         }),
-    subst (λ (k : Known). GoesOn old.resolves k) (sym is.2) goes,
+    subst (λ (k : Known). SeatGoesOn old.resolves k) (sym is.2) goes,
   )
 
   pub unended_after : (upto again : ℕ) → upto ≤ again → (old mid : Seats J) (u : Unended J E) (v x w : W)
@@ -113,7 +114,7 @@ module _ {J W O E : Type 0} (does : W → Entries → Result O (Failure E) → E
   -- a session began over the seats, and finished
   pub ended_over : (old : Seats J) (begun session : Seated) (resolves : Known) (value : Option O) (stop : Option (Failure E)) (r :
       Result (Ended J O E) (Unended J E)) (v w : W) → BeganAt bounds old.begins begun.state.start begun.seat
-      → Writes begun session → Works does bounds terms begun session value stop v w → GoesOn old.resolves resolves
+      → MayHaveDeclared begun session → Works does bounds terms begun session value stop v w → SeatGoesOn old.resolves resolves
       → IfOk r (EndsFrom bounds begun.seat session resolves value stop)
       → IfOk r (λ (e : Ended J O E). EndsOver does bounds terms old v 0 e w)
   ended_over old begun session resolves value stop (Err u) v w began writes works goes is = tt
@@ -130,7 +131,7 @@ module _ {J W O E : Type 0} (does : W → Entries → Result O (Failure E) → E
         (subst (λ (o : Option O). Works does bounds terms begun session o stop v w) (sym same) works));
     above = known_on old.begins.events begun.seat.events
         (began_begins bounds old.begins begun.seat begun.state.start began) e.outcome ends.above;
-    resolves = subst (λ (k : Known). GoesOn old.resolves k) (sym at) goes;
+    resolves = subst (λ (k : Known). SeatGoesOn old.resolves k) (sym at) goes;
   }
 
   -- tries before it were in vain
@@ -163,8 +164,9 @@ module _ {J W O E : Type 0} (does : W → Entries → Result O (Failure E) → E
 
   -- one more in vain
   pub vain_again : (upto : ℕ) (old mid : Seats J) (e : Ended J O E) (v x w : W) → InVain upto old v mid x
-      → EndsOver does bounds terms mid x 0 e w → IsWithoutEffect e.outcome → InVain (upto + 1) old v e.seats w
-  vain_again upto old mid e v x w (n, few, vain, goes) over none = (
+      → EndsOver does bounds terms mid x 0 e w → IsWithoutEffect e.outcome → may_go_further e.outcome e.stop ≡ true
+      → InVain (upto + 1) old v e.seats w
+  vain_again upto old mid e v x w (n, few, vain, goes) over none passes = (
     suc n,
     omega arith,
     (
@@ -181,6 +183,7 @@ module _ {J W O E : Type 0} (does : W → Entries → Result O (Failure E) → E
         nothing = over.ends.nothing none;
         value = e.value;
         stop = e.stop;
+        passes = passes;
         works = over.works;
       },
     ),

@@ -11,13 +11,13 @@ use Rattle.tx_simple.specs.declared.ending.Seats.{Seats}
 use Rattle.tx_simple.specs.declared.ending.Ended.{Ended}
 use Rattle.tx_simple.specs.declared.ending.Unended.{Unended}
 use Rattle.tx_simple.specs.declared.ending.Unended.TheVariants as unended
-use Rattle.tx_simple.specs.Updates.{GoesOn, Ends, TriesInVain, Works, CommitsAboveKnown}
+use Rattle.tx_simple.specs.Updates.{SeatGoesOn, EndedWith, TriesInVain, Works, CommitsAboveKnown}
 
 -- the session over this seat ended so, with this value, this stopped it, and the other seat is this
 -- one
 abbrev pub EndsFrom : {J O E : Type 0} → List Key → Known → Seated → Known → Option O → Option (Failure E) → Ended J O E
     → Type 0
-EndsFrom bounds begins session resolves value stop e = (ends : Ends bounds begins e.start e.outcome e.seats.begins)
+EndsFrom bounds begins session resolves value stop e = (ends : EndedWith bounds begins e.start e.outcome e.seats.begins)
     × (ends.session ≡ session) × (e.seats.resolves ≡ resolves) × (e.value ≡ value) × (e.stop ≡ stop)
 
 -- a session that has no outcome is handed back
@@ -26,20 +26,20 @@ IsOpen session resolves stop (unended.Spent seats) = ⊥
 IsOpen session resolves stop (unended.Open again same why) = (finish_of session.state ≡ None)
     × (again ≡ session) × (same ≡ resolves) × (why ≡ stop)
 
-module _ {W O E : Type 0} (does : W → Entries → Result O (Failure E) → Entries → W → Type 0) (bounds : List Key) (terms :
-    Terms) where
+module _ {W O E : Type 0} (does : W → Entries → Result O (Failure E) → Entries → W → Type 0) (bounds : List Key)
+    (terms : Terms) where
   -- a session began over this seat, the work was done in it, and it has no outcome
   pub record StaysOpen (last : Known) (session : Seated) (stop : Option (Failure E)) (between new : W) : Type 0 where
     pub begun : Seated
     pub began : BeganAt bounds last begun.state.start begun.seat
-    pub seat : GoesOn begun.seat session.seat
+    pub seat : SeatGoesOn begun.seat session.seat
     pub start : session.state.start ≡ begun.state.start
     pub value : Option O
     pub works : Works does bounds terms begun session value stop between new
     pub none : finish_of session.state ≡ None
 
-module _ {J W O E : Type 0} (does : W → Entries → Result O (Failure E) → Entries → W → Type 0) (bounds : List Key) (terms :
-    Terms) where
+module _ {J W O E : Type 0} (does : W → Entries → Result O (Failure E) → Entries → W → Type 0) (bounds : List Key)
+    (terms : Terms) where
   -- How the last try ended, after so many that came to nothing: a transaction began over the seat
   -- that begins and ended so, the work was done in it, and the other seat went on. A commit lies
   -- above each that the seat knew to be decided before the first.
@@ -49,18 +49,18 @@ module _ {J W O E : Type 0} (does : W → Entries → Result O (Failure E) → E
     pub vain : TriesInVain does bounds terms tries old.begins last before between
     pub begun : Seated
     pub began : BeganAt bounds last begun.state.start begun.seat
-    pub ends : Ends bounds begun.seat e.start e.outcome e.seats.begins
+    pub ends : EndedWith bounds begun.seat e.start e.outcome e.seats.begins
     pub start : e.start ≡ begun.state.start
     pub works : Works does bounds terms begun ends.session e.value e.stop between new
     pub above : CommitsAboveKnown old.begins.events e.outcome
-    pub resolves : GoesOn old.resolves e.seats.resolves
+    pub resolves : SeatGoesOn old.resolves e.seats.resolves
 
   -- nothing ended after so many tries that came to nothing: the seat has no ticks to begin with, or
   -- the session has no outcome
   abbrev pub IsUnended : Seats J → W → ℕ → Unended J E → W → Type 0
   IsUnended old before tries (unended.Spent seats) new =
       TriesInVain does bounds terms tries old.begins seats.begins before new
-      × GoesOn old.resolves seats.resolves × (seats.begins.ticks < 1)
+      × SeatGoesOn old.resolves seats.resolves × (seats.begins.ticks < 1)
   IsUnended old before tries (unended.Open session resolves stop) new = (last : Known) × (between : W)
       × TriesInVain does bounds terms tries old.begins last before between
-      × StaysOpen does bounds terms last session stop between new × GoesOn old.resolves resolves
+      × StaysOpen does bounds terms last session stop between new × SeatGoesOn old.resolves resolves

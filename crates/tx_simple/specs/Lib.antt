@@ -1,4 +1,4 @@
-pub mod Meeting
+pub mod MetLock
 pub mod Updates
 pub mod Endings
 pub mod Reads

@@ -29,13 +29,6 @@ is_below (Some to) k = key_lt k to
 abbrev pub is_in_range : Option Key → Option Key → Key → Bool
 is_in_range from to k = key_le (begin_of from) k && is_below to k
 
--- Rows are those of the keys that pass a test: they rise, each is of such a key, and of each such
--- key they tell.
-pub record AreRowsOf (test : Key → Bool) (tells : Key → Option Value → Type 0) (rows : List KeyValue) : Type 0 where
-  pub rising : IsRising rows
-  pub within : (k : Key) (v : Value) → value_in rows k ≡ Some v → IsTrue (test k)
-  pub each : (k : Key) → IsTrue (test k) → tells k (value_in rows k)
-
 -- a row of a key
 abbrev pub row_with : Key → Value → KeyValue
 row_with k v = record { key = k; value = v }

@@ -14,7 +14,8 @@ use Rattle.tx_core.specs.Shadow.{shadow}
 use Rattle.tx_core.specs.Worlds.{IsWorldRun}
 use Rattle.tx_transaction.specs.Buffers.{Entries, buffered, is_known}
 use Rattle.tx_laws.specs.Scans.{scan_at}
-use Rattle.tx_simple.specs.Ranges.{AreRowsOf, is_in_range}
+use Rattle.tx_laws.specs.Rows.{AreRowsOf}
+use Rattle.tx_simple.specs.Ranges.{is_in_range}
 
 -- What a read of a key finds, by what was entered of it: a value that was put or inserted, none
 -- where it was deleted; else what the one-step machine sees there at the start.

@@ -1,5 +1,5 @@
 -- What stops a transaction, and whether one that begins later may go further.
-use Rattle.std.specs.Prelude.{Bool, true, false}
+use Rattle.std.specs.Prelude.{◌≡◌, ◌⊎◌, Bool, true, false}
 use Rattle.tx_types.specs.declared.fault.Fault.{Fault}
 use Rattle.tx_types.specs.declared.fault.Fault.TheVariants as fault
 use Rattle.tx_plan.specs.declared.answer.Answer.{Answer}
@@ -7,8 +7,8 @@ use Rattle.tx_plan.specs.declared.answer.Answer.TheVariants as answer
 use Rattle.tx_transaction.specs.declared.state.Miss.{Miss}
 use Rattle.tx_transaction.specs.declared.state.Miss.TheVariants as miss
 use Rattle.tx_client.specs.declared.resolved.WaitCause.TheVariants as wait
-use Rattle.tx_simple.specs.declared.stopping.Stop.{Stop}
-use Rattle.tx_simple.specs.declared.stopping.Stop.TheVariants as stop
+use Rattle.tx_simple.specs.declared.stops.Stop.{Stop}
+use Rattle.tx_simple.specs.declared.stops.Stop.TheVariants as stop
 
 -- what stood in the way passes with time, or a reply was lost: another transaction may go further
 abbrev pub may_pass : Stop → Bool
@@ -35,3 +35,8 @@ stop_of_refusal (answer.KeyIsLocked info) = stop.Waits wait.Live
 stop_of_refusal answer.AlreadyExists = stop.AlreadyExists
 stop_of_refusal (answer.BelowSafePoint safe) = stop.BelowSafePoint
 stop_of_refusal _ = stop.Conflict
+
+-- why nothing is entered of a key: it would be one too many, or memory was refused
+abbrev pub IsEntryStop : Bool → Stop → Type 0
+IsEntryStop full s = ((s ≡ stop.Refused fault.TooManyKeys) × (full ≡ true))
+    ⊎ ((s ≡ stop.Refused fault.OutOfMemory) × (full ≡ false))

@@ -1,9 +1,9 @@
 -- How a transaction is run over a seat, and how it ends.
-use Rattle.std.specs.Prelude.{◌≡◌, ◌≢◌, ◌⊎◌, ◌<◌, ℕ, zero, suc, List, [], ◌∷◌, false, Option, Some, None, Result}
+use Rattle.std.specs.Prelude.{◌≡◌, ◌≢◌, ◌⊎◌, ◌<◌, ℕ, zero, suc, List, [], ◌∷◌, true, false, Option, Some, None, Result}
 use Rattle.tx_transaction.specs.declared.state.Terms.{Terms}
 use Rattle.tx_transaction.specs.Buffers.{Entries}
 use Rattle.tx_simple.specs.declared.failure.Failure.{Failure}
-use Rattle.tx_simple.specs.Failures.{Tells}
+use Rattle.tx_simple.specs.Failures.{TellsOfWork, may_go_further}
 use Rattle.tx_types.specs.declared.key.Key.{Key}
 use Rattle.tx_core.specs.declared.event.Outcome.{Outcome}
 use Rattle.tx_core.specs.declared.event.Outcome.TheVariants as outcome
@@ -40,21 +40,21 @@ GoesWithoutEffect i l (e ∷ h) = (l ≡ e ∷ h) ⊎ GoesWithoutEffect i l h ×
 
 -- a seat goes on within a transaction, or beside one: it has its number, knows what it knew, and
 -- has since begun no transaction, answered of none and stopped none
-pub record GoesOn (old new : Known) : Type 0 where
+pub record SeatGoesOn (old new : Known) : Type 0 where
   pub number : new.seat ≡ old.seat
   pub knows : GoesWithoutEffect old.seat old.events new.events
 
 -- a session goes on: its seat does, and it is the same transaction, which declares nothing more
 pub record Follows (old new : Seated) : Type 0 where
-  pub seat : GoesOn old.seat new.seat
+  pub seat : SeatGoesOn old.seat new.seat
   pub start : new.state.start ≡ old.state.start
   pub declared : new.state.declared ≡ old.state.declared
   pub placed : new.state.placed ≡ old.state.placed
 
 -- a session went on from where nothing was declared, and may have declared: the number of that was
 -- drawn after what its seat had known
-pub record Writes (old new : Seated) : Type 0 where
-  pub seat : GoesOn old.seat new.seat
+pub record MayHaveDeclared (old new : Seated) : Type 0 where
+  pub seat : SeatGoesOn old.seat new.seat
   pub start : new.state.start ≡ old.state.start
   pub placed : (has_primary new.state ≡ false) ⊎ IsDrawnAfter old.seat.events new.seat.events new.state.placed
 
@@ -72,9 +72,9 @@ CameToNothing h t = (declared h t ≡ None) ⊎ IsDecidedSo h t outcome.Aborted
 -- A session over this seat, which knew `old` when it had begun, has ended: it began at t, has seen
 -- more and has this outcome, which the seat recorded; a fate is decided so, without effect is what
 -- came to nothing, and a commit is in order, above each that the seat knew to be decided before.
-pub record Ends (bounds : List Key) (old : Known) (t : ℕ) (end : Outcome) (new : Known) : Type 0 where
+pub record EndedWith (bounds : List Key) (old : Known) (t : ℕ) (end : Outcome) (new : Known) : Type 0 where
   pub session : Seated
-  pub seat : GoesOn old session.seat
+  pub seat : SeatGoesOn old session.seat
   pub start : session.state.start ≡ t
   pub outcome : finish_of session.state ≡ Some end
   pub recorded : Records bounds session.seat (Answered t end) new
@@ -88,7 +88,7 @@ pub record Wrote (bounds : List Key) (terms : Terms) (start : ℕ) (entered : En
   pub placed : ℕ
   pub after : Known
   pub declares : RecordsDeclared bounds old (declaration start placed entered terms) after
-  pub goes : GoesOn after new
+  pub goes : SeatGoesOn after new
 
 -- where nothing stopped it
 abbrev pub OnNoStop : {E : Type 0} → Option (Failure E) → Type 0 → Type 0
@@ -104,23 +104,25 @@ module _ {W O E : Type 0} (does : W → Entries → Result O (Failure E) → Ent
     pub answered : Result O (Failure E)
     pub entered : Entries
     pub did : does old [] answered entered new
-    pub tells : Tells answered value stop
+    pub tells : TellsOfWork answered value stop
     pub before : Known
-    pub goes : GoesOn begun.seat before
+    pub goes : SeatGoesOn begun.seat before
     pub wrote : OnNoStop stop (Wrote bounds terms begun.state.start entered before session.seat)
 
   -- A try that is over and came to nothing: the seat began a transaction, went on within it alone,
-  -- and answered of it, of which nothing was declared, or it is decided that it is aborted.
+  -- and answered of it, of which nothing was declared, or it is decided that it is aborted; and what
+  -- stopped it may pass.
   pub record ComesToNothing (old new : Known) (before after_it : W) : Type 0 where
     pub begun : Seated
     pub began : BeganAt bounds old begun.state.start begun.seat
     pub start : ℕ
     pub end : Outcome
-    pub ends : Ends bounds begun.seat start end new
+    pub ends : EndedWith bounds begun.seat start end new
     pub same : start ≡ begun.state.start
     pub nothing : CameToNothing ends.session.seat.events start
     pub value : Option O
     pub stop : Option (Failure E)
+    pub passes : may_go_further end stop ≡ true
     pub works : Works begun ends.session value stop before after_it
 
   -- so many tries, one after another, came to nothing, and neither the seat nor the work did

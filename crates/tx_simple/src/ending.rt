@@ -3,7 +3,8 @@ ghost use Rattle.std.specs.Prelude.{◌≡◌, true, None, IfOk, IfErr};
 ghost use Rattle.tx_transaction.specs.Sessions.{finish_of};
 ghost use Rattle.tx_journal.specs.Known.{Known};
 ghost use Rattle.tx_client.specs.Calls.{Seated};
-ghost use Rattle.tx_simple.specs.Updates.{IsWithoutEffect, Writes};
+ghost use Rattle.tx_simple.specs.Failures.{may_go_further};
+ghost use Rattle.tx_simple.specs.Updates.{IsWithoutEffect, MayHaveDeclared};
 ghost use Rattle.tx_simple.specs.Endings.{EndsFrom, IsOpen};
 
 use crate::failure::Failure;
@@ -51,7 +52,8 @@ pub enum Unended<J: JournalId, E> {
 impl<J: JournalId, O: Drop, E: Drop> Ended<J, O, E> {
     /// Whether the transaction changed nothing, for good, and one that begins later may go further.
     pub fn may_pass(&self) -> bool
-        ensures { result ≡ true → IsWithoutEffect self.now.outcome }
+        ensures passes { result ≡ may_go_further self.now.outcome self.now.stop }
+        ensures effect { result ≡ true → IsWithoutEffect self.now.outcome }
     {
         match (&self.outcome, &self.stop) {
             (Outcome::Aborted | Outcome::ReadOnly, Some(stop)) => stop.may_pass(),
@@ -82,7 +84,7 @@ pub(crate) fn finished<J: JournalId, O: Drop, E: Drop>(
     value: Option<O>,
     stop: Option<Failure<E>>,
 ) -> Result<Ended<J, O, E>, Unended<J, E>>
-    ensures ended { (begun : Seated) → Writes begun session
+    ensures ended { (begun : Seated) → MayHaveDeclared begun session
         → IfOk result (λ e. EndsFrom J.bounds begun.seat session resolves value stop e) }
     ensures open_yet { IfErr result (λ u. IsOpen session resolves stop u) }
 {

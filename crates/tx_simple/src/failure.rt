@@ -2,7 +2,7 @@
 ghost use Rattle.std.specs.Prelude.{◌≡◌};
 ghost use Rattle.tx_simple.specs.Failures.{may_pass, failure_in};
 
-use crate::stopping::Stop;
+use crate::stops::Stop;
 use tx_types::Fault;
 
 /// Why a work, or the transaction that it was done in, went no further.

@@ -1,23 +1,23 @@
 //! What nearly every user of sessions writes, in one call.
 #![tactic(auto)]
 
-mod carrying;
+mod attempt;
+mod completion;
 mod ending;
 mod failure;
-mod lending;
-mod meeting;
+mod met_lock;
 mod range;
 mod rows;
-mod running;
-mod stopping;
-mod trying;
-mod updating;
+mod session;
+mod stops;
+mod tx;
+mod updates;
 
 pub use ending::{Ended, Seats, Unended};
 pub use failure::Failure;
-pub use lending::Tx;
-pub use meeting::resolve_met;
+pub use met_lock::resolve_met;
 pub use range::{add_last, add_rows, split_page};
 pub use rows::{KeyRange, greatest};
-pub use stopping::Stop;
-pub use updating::{Work, update};
+pub use stops::Stop;
+pub use tx::Tx;
+pub use updates::{Work, update};

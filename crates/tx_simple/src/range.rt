@@ -1,14 +1,15 @@
 //! The rows of a range at the start of a transaction that is lent, page by page.
-ghost use Rattle.std.specs.Prelude.{◌≡◌, OnOk, IfOk, Some, None, ◌++◌};
+ghost use Rattle.std.specs.Prelude.{◌≡◌, OnOk, OnErr, IfOk, IfErr, Some, None, ◌++◌};
 ghost use Rattle.tx_types.specs.Keys.{is_between};
 ghost use Rattle.tx_core.specs.Histories.{Begins};
-ghost use Rattle.tx_simple.specs.Ranges.{AreRowsOf, IsSplit, is_in_range, row_of};
+ghost use Rattle.tx_laws.specs.Rows.{AreRowsOf};
+ghost use Rattle.tx_simple.specs.Ranges.{IsSplit, is_in_range, row_of};
 ghost use Rattle.tx_simple.specs.Reads.{Beneath, SeesOn};
 
-use crate::lending::Lent;
 use crate::rows::{KeyRange, greatest};
-use crate::running::Begun;
-use crate::stopping::Stop;
+use crate::session::Begun;
+use crate::stops::Stop;
+use crate::tx::Lent;
 use tx_journal::{JournalId, Reply, Request, Sender};
 use tx_types::limits::MAX_SCAN_ROWS;
 use tx_types::{Fault, Key, KeyValue, KeyValues, Value};
@@ -28,16 +29,21 @@ pub fn split_page(page: KeyValues, end: Key) -> (Vec<KeyValue>, Key)
     (rows, last.key)
 }
 
-/// Adds rows at the end.
+/// Adds rows at the end. `OutOfMemory` leaves them as they were.
 pub fn add_rows(rows: &mut Vec<KeyValue>, mut more: Vec<KeyValue>) -> Result<(), Fault>
-    ensures { OnOk result (rows.new.items ≡ rows.old.items ++ more.items) }
+    ensures ok { OnOk result (rows.new.items ≡ rows.old.items ++ more.items) }
+    ensures same { OnErr result (rows.new.items ≡ rows.old.items) }
+    ensures err { IfErr result (λ e. e ≡ Fault.OutOfMemory) }
 {
     Ok(rows.append(&mut more)?)
 }
 
-/// Adds the row of a key at the end, where it has a value.
+/// Adds the row of a key at the end, where it has a value. `OutOfMemory` leaves the rows as they
+/// were.
 pub fn add_last(rows: &mut Vec<KeyValue>, key: Key, value: Option<Value>) -> Result<(), Fault>
-    ensures { OnOk result (rows.new.items ≡ rows.old.items ++ row_of key value) }
+    ensures ok { OnOk result (rows.new.items ≡ rows.old.items ++ row_of key value) }
+    ensures same { OnErr result (rows.new.items ≡ rows.old.items) }
+    ensures err { IfErr result (λ e. e ≡ Fault.OutOfMemory) }
 {
     if let Some(value) = value {
         rows.push(KeyValue { key, value })?;

@@ -1,5 +1,5 @@
 //! Rows in the order of their keys, and what is entered over them.
-ghost use Rattle.std.specs.Prelude.{◌≡◌, ◌≤◌, List, length, Some, OnOk, IfOk, bytes_eq, IsTrue};
+ghost use Rattle.std.specs.Prelude.{◌≡◌, ◌≤◌, List, length, Some, OnOk, IfOk, IfErr, bytes_eq, IsTrue};
 ghost use Rattle.std.specs.List.{prefix_len, list_any};
 ghost use Rattle.tx_types.specs.declared.key.Key.{Key as Name};
 ghost use Rattle.tx_types.specs.declared.value.Value.{Value as Given};
@@ -71,7 +71,8 @@ pub struct KeyRange {
 
 /// The greatest key.
 pub fn greatest(alloc: Global) -> Result<Key, Fault>
-    ensures { IfOk result (λ key. key ≡ greatest) }
+    ensures ok { IfOk result (λ key. key ≡ greatest) }
+    ensures err { IfErr result (λ e. e ≡ Fault.OutOfMemory) }
 {
     Key::new(alloc, &[u8::MAX; MAX_KEY_BYTES])
 }
@@ -87,7 +88,8 @@ fn know_bytes(bytes: &[u8])
 impl KeyRange {
     /// The range from a key, or from the least, and up to a key, or to the greatest.
     pub fn new(alloc: Global, from: Option<Key>, to: Option<Key>) -> Result<KeyRange, Fault>
-        ensures { IfOk result (λ range. (range.from ≡ begin_of from) × (range.to ≡ to)) }
+        ensures ok { IfOk result (λ range. (range.from ≡ begin_of from) × (range.to ≡ to)) }
+        ensures err { IfErr result (λ e. e ≡ Fault.OutOfMemory) }
     {
         let from = match from {
             Some(from) => from,

@@ -1,6 +1,6 @@
 //! Locks that are resolved, and updates that go well, are tried again or stop.
-mod leaving;
-mod meeting;
+mod met_lock;
 mod opening;
-mod updating;
+mod orphan;
+mod updates;
 mod works;

@@ -22,14 +22,19 @@ then_assoc Equal b c = refl
 then_assoc Greater b c = refl
 
 -- fronts of one length decide first
-pub fronts_first : (p q s t : List ℕ) → length p ≡ length q → compare (p ++ s) (q ++ t) ≡ ordering_then (compare p q) (compare s t)
+pub fronts_first : (p q s t : List ℕ) → length p ≡ length q
+    → compare (p ++ s) (q ++ t) ≡ ordering_then (compare p q) (compare s t)
 fronts_first [] [] s t e = refl
 fronts_first [] (y ∷ ys) s t e = absurd (omega (arith, e))
 fronts_first (x ∷ xs) [] s t e = absurd (omega (arith, e))
-fronts_first (x ∷ xs) (y ∷ ys) s t e = ap (ordering_then (nat_cmp x y)) (fronts_first xs ys s t (omega (arith, e))) ∙ then_assoc (nat_cmp x y) (compare xs ys) (compare s t)
+fronts_first (x ∷ xs) (y ∷ ys) s t e =
+    ap (ordering_then (nat_cmp x y)) (fronts_first xs ys s t (omega (arith, e)))
+    ∙ then_assoc (nat_cmp x y) (compare xs ys) (compare s t)
 
 -- the first eight bytes decide as the numbers that they spell
-pub words_first : (x y : List ℕ) → AreBytes x → AreBytes y → 8 ≤ length x → 8 ≤ length y → compare x y ≡ ordering_then (nat_cmp (big_number 8 x) (big_number 8 y)) (compare (drop 8 x) (drop 8 y))
+pub words_first : (x y : List ℕ) → AreBytes x → AreBytes y → 8 ≤ length x
+    → 8 ≤ length y → compare x y ≡ ordering_then (nat_cmp (big_number 8 x) (big_number 8 y))
+    (compare (drop 8 x) (drop 8 y))
 words_first x y hx hy lx ly =
     let m = big_number 8 x in
     let n = big_number 8 y in
@@ -37,7 +42,8 @@ words_first x y hx hy lx ly =
     ap (λ (w : List ℕ). compare w y) (takes_8 x hx lx).spelled
     ∙ ap (compare (word m ++ drop 8 x)) (takes_8 y hy ly).spelled
     ∙ fronts_first (word m) (word n) (drop 8 x) (drop 8 y) refl
-    ∙ ap (λ (o : Ordering). ordering_then o (compare (drop 8 x) (drop 8 y))) (words_order m n (below_8 x hx) (below_8 y hy))
+    ∙ ap (λ (o : Ordering). ordering_then o (compare (drop 8 x) (drop 8 y)))
+    (words_order m n (below_8 x hx) (below_8 y hy))
 
 pub tied : (o : Ordering) (p : Ordering) → o ≢ Equal → ordering_then o p ≡ o
 tied Less p ne = refl
@@ -48,16 +54,22 @@ pub equals : (n : ℕ) → nat_cmp n n ≡ Equal
 equals n = sym (nat_cmp_is n n Equal refl)
 
 -- equal words decide nothing
-pub words_equal : (x y : List ℕ) → AreBytes x → AreBytes y → 8 ≤ length x → 8 ≤ length y → big_number 8 x ≡ big_number 8 y → compare x y ≡ compare (drop 8 x) (drop 8 y)
+pub words_equal : (x y : List ℕ) → AreBytes x
+    → AreBytes y → 8 ≤ length x → 8 ≤ length y → big_number 8 x ≡ big_number 8 y
+    → compare x y ≡ compare (drop 8 x) (drop 8 y)
 words_equal x y hx hy lx ly e =
     words_first x y hx hy lx ly
-    ∙ ap (λ (o : Ordering). ordering_then o (compare (drop 8 x) (drop 8 y))) (ap (nat_cmp (big_number 8 x)) (sym e) ∙ equals (big_number 8 x))
+    ∙ ap (λ (o : Ordering). ordering_then o (compare (drop 8 x) (drop 8 y))) (ap (nat_cmp (big_number 8 x)) (sym e)
+    ∙ equals (big_number 8 x))
 
 -- others decide
-pub words_unequal : (x y : List ℕ) → AreBytes x → AreBytes y → 8 ≤ length x → 8 ≤ length y → big_number 8 x ≢ big_number 8 y → compare x y ≡ nat_cmp (big_number 8 x) (big_number 8 y)
+pub words_unequal : (x y : List ℕ) → AreBytes x → AreBytes y
+    → 8 ≤ length x → 8 ≤ length y → big_number 8 x ≢ big_number 8 y
+    → compare x y ≡ nat_cmp (big_number 8 x) (big_number 8 y)
 words_unequal x y hx hy lx ly ne =
     words_first x y hx hy lx ly
-    ∙ tied (nat_cmp (big_number 8 x) (big_number 8 y)) (compare (drop 8 x) (drop 8 y)) (λ e. ne (exact_unsigned (big_number 8 x) (big_number 8 y) e))
+    ∙ tied (nat_cmp (big_number 8 x) (big_number 8 y)) (compare (drop 8 x) (drop 8 y))
+    (λ e. ne (exact_unsigned (big_number 8 x) (big_number 8 y) e))
 
 pub AreBytes-drop : (n : ℕ) (xs : List ℕ) → AreBytes xs → AreBytes (drop n xs)
 AreBytes-drop n xs fits i = rw (get_or-drop n xs i 0) (fits (n + i))

@@ -19,11 +19,13 @@ is_answered bounds q g same given = go g.answer given.told
     go (Some a) told =
         let x = told.tells in record {
           region = told.region;
-          holds = subst (λ (r : Asked). Holds bounds told.region r.body) same (subst (IsWorldRun bounds) x.ends x.run).1.holds;
+          holds = subst (λ (r : Asked). Holds bounds told.region r.body) same
+              (subst (IsWorldRun bounds) x.ends x.run).1.holds;
           loaded = last x.point;
           before = x.before;
           ends = x.ends
-              ∙ ap (λ (r : Asked). Took (record { region = told.region; body = r.body; loaded = last x.point; answer = a }) ∷ x.before) same;
+              ∙ ap (λ (r : Asked). Took
+              (record { region = told.region; body = r.body; loaded = last x.point; answer = a }) ∷ x.before) same;
           after = subst (λ (r : Asked). Begins r.by x.before) same
               (begins_more g.request.by x.point x.before x.sender x.since);
         }

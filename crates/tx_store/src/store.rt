@@ -8,7 +8,7 @@ ghost use Rattle.tx_journal.specs.Known.{Known};
 ghost use Rattle.tx_types.specs.Keys.{AreRising};
 ghost use Rattle.tx_region.specs.KeyFronts.{AreFronts};
 ghost use Rattle.tx_region.specs.Copies.{IsOfKey};
-ghost use Rattle.tx_region.specs.Planning.{IsCopyFor, IsPlanFor};
+ghost use Rattle.tx_region.specs.KeyPlans.{IsCopyFor, IsPlanFor};
 ghost use Rattle.tx_journal.specs.Replies.{IsGiven};
 ghost use Rattle.tx_journal.specs.Senders.{IsHeld};
 ghost use Rattle.tx_store.specs.Stores.{AreForSessions, IsAnswered};

@@ -16,13 +16,20 @@ pub struct Wire<'a, J: JournalId, F: Families + Drop, R: Wait> {
 }
 
 impl<'a, J: JournalId, F: Families + Drop, R: Wait> Wire<'a, J, F, R> {
-    /// The way to the regions of this store.
-    pub fn new(rt: &'a R, store: &'a Store<J, F>) -> Wire<'a, J, F, R> {
+    /// The way to the regions of this store: it takes what some region holds, a reply is to the
+    /// request that was sent, and none is lost.
+    pub fn new(rt: &'a R, store: &'a Store<J, F>) -> Wire<'a, J, F, R>
+        ensures way { IsSender J.bounds
+            ⟦<Wire<'a, J, F, R> as Sender<Request<J>, Reply<J>>>⟧.fits
+            ⟦<Wire<'a, J, F, R> as Sender<Request<J>, Reply<J>>>⟧.sends
+            ⟦<Wire<'a, J, F, R> as Sender<Request<J>, Reply<J>>>⟧.keys_between }
+        ensures loses { LosesNothing ⟦<Wire<'a, J, F, R> as Sender<Request<J>, Reply<J>>>⟧.sends }
+    {
         Wire { rt, store }
     }
 
-    /// For proofs: it takes what some region holds, a reply is to the request that was sent, and
-    /// none is lost. It does nothing when it runs.
+    /// For proofs: what `new` says, of a wire that another function made. It does nothing when it
+    /// runs.
     pub fn show(&self)
         ensures way { IsSender J.bounds
             ⟦<Wire<'a, J, F, R> as Sender<Request<J>, Reply<J>>>⟧.fits

@@ -4,7 +4,7 @@ use Rattle.std.specs.Io.KnownBytes.{Consumes, Keeps, IsAtEnd}
 use Rattle.std.proofs.KnownBytes.{Consumes-trans}
 use Rattle.tx_text.specs.declared.lines.Found.TheVariants.{Line, Long, End}
 use Rattle.std.proofs.lemmas.List.Elements.{All-head, All-tail, All-append, All-cons, All-nil}
-use Rattle.tx_text.specs.Lines.{lines_of, onto_first, max_line, Reads, NoNewline}
+use Rattle.tx_text.specs.Lines.{lines_of, onto_first, max_line, ReadsLine, NoNewline}
 
 pub slice-end : (field : List ℕ) (s : ℕ) → take (length field - s) (drop s field) ≡ drop s field
 slice-end field s =
@@ -64,7 +64,7 @@ lines_of-last (x ∷ y ∷ line) none some =
 -- ---- what a read of known bytes finds
 
 pub found_line : (a b c : Option (List ℕ)) (line : List ℕ) → NoNewline line → length line ≤ max_line → Consumes a b line
-    → Consumes b c (10 ∷ []) → IfSome a (λ bytes. Reads bytes c Line line)
+    → Consumes b c (10 ∷ []) → IfSome a (λ bytes. ReadsLine bytes c Line line)
 found_line None b c line none bound first next = tt
 found_line (Some x) None c line none bound first next = absurd first
 found_line (Some x) (Some y) None line none bound first next = absurd next
@@ -72,7 +72,7 @@ found_line (Some x) (Some y) (Some z) line none bound first next =
     (z, refl, bound, ap lines_of (first ∙ ap (λ l. line ++ l) next) ∙ lines_of-line line z none)
 
 pub found_last : (a b c : Option (List ℕ)) (line : List ℕ) → NoNewline line → length line ≤ max_line → 0 < length line
-    → Consumes a b line → Consumes b c [] → IsAtEnd c → IfSome a (λ bytes. Reads bytes c Line line)
+    → Consumes a b line → Consumes b c [] → IsAtEnd c → IfSome a (λ bytes. ReadsLine bytes c Line line)
 found_last None b c line none bound some first next end = tt
 found_last (Some x) None c line none bound some first next end = absurd first
 found_last (Some x) (Some y) None line none bound some first next end = absurd next
@@ -85,7 +85,7 @@ found_last (Some x) (Some y) (Some z) line none bound some first next end = (
 )
 
 pub found_end : (a b c : Option (List ℕ)) (line : List ℕ) → length line ≡ 0 → Consumes a b line → Consumes b c []
-    → IsAtEnd c → IfSome a (λ bytes. Reads bytes c End line)
+    → IsAtEnd c → IfSome a (λ bytes. ReadsLine bytes c End line)
 found_end None b c line empty first next end = tt
 found_end (Some x) None c line empty first next end = absurd first
 found_end (Some x) (Some y) None line empty first next end = absurd next
@@ -93,7 +93,7 @@ found_end (Some x) (Some y) (Some z) [] empty first next end = first ∙ next �
 found_end (Some x) (Some y) (Some z) (w ∷ line) empty first next end = absurd (omega arith)
 
 pub found_long : (a b : Option (List ℕ)) (line : List ℕ) → NoNewline line → max_line < length line → Consumes a b line
-    → IfSome a (λ bytes. Reads bytes b Long line)
+    → IfSome a (λ bytes. ReadsLine bytes b Long line)
 found_long None b line none long first = tt
 found_long (Some x) None line none long first = absurd first
 found_long (Some x) (Some y) line none long first =
@@ -136,14 +136,14 @@ pub part_plain : (before bs after : List ℕ) → after ≡ before ++ bs → NoN
 part_plain before bs after e p q = subst NoNewline (sym e) (All-append (λ y. y ≢ 10) before bs p q)
 
 pub line_found : (a c : Option (List ℕ)) (line : List ℕ) → NoNewline line → length line ≤ max_line
-    → Consumes a c (line ++ 10 ∷ []) → IfSome a (λ bytes. Reads bytes c Line line)
+    → Consumes a c (line ++ 10 ∷ []) → IfSome a (λ bytes. ReadsLine bytes c Line line)
 line_found None c line none bound p = tt
 line_found (Some x) None line none bound p = absurd p
 line_found (Some x) (Some z) line none bound p =
     (z, refl, bound, ap lines_of (p ∙ append_assoc line (10 ∷ []) z) ∙ lines_of-line line z none)
 
 pub long_found : (a c : Option (List ℕ)) (line : List ℕ) → NoNewline line → max_line < length line
-    → Consumes a c (line ++ 10 ∷ []) → IfSome a (λ bytes. Reads bytes c Long line)
+    → Consumes a c (line ++ 10 ∷ []) → IfSome a (λ bytes. ReadsLine bytes c Long line)
 long_found None c line none long p = tt
 long_found (Some x) None line none long p = absurd p
 long_found (Some x) (Some z) line none long p =
@@ -151,14 +151,14 @@ long_found (Some x) (Some z) line none long p =
 
 pub last_found : (a b c : Option (List ℕ)) (before line : List ℕ) → line ≡ before → NoNewline before
     → length before ≤ max_line → 0 < length line → Consumes a b before → Consumes b c [] → IfSome b (λ _. IsAtEnd c)
-    → IfSome a (λ bytes. Reads bytes c Line line)
+    → IfSome a (λ bytes. ReadsLine bytes c Line line)
 last_found None b c before line e none bound some p q end = tt
 last_found (Some x) b c before line e none bound some p q end =
-    subst (λ l. Reads x c Line l) (sym e)
+    subst (λ l. ReadsLine x c Line l) (sym e)
     (found_last (Some x) b c before none bound (subst (λ l. 0 < length l) e some) p q (end_of b c x before p end))
 
 pub end_found : (a b c : Option (List ℕ)) (before line : List ℕ) → line ≡ before → length line ≡ 0 → Consumes a b before
-    → Consumes b c [] → IfSome b (λ _. IsAtEnd c) → IfSome a (λ bytes. Reads bytes c End line)
+    → Consumes b c [] → IfSome b (λ _. IsAtEnd c) → IfSome a (λ bytes. ReadsLine bytes c End line)
 end_found None b c before line e empty p q end = tt
 end_found (Some x) b c before line e empty p q end =
     found_end (Some x) b c before (subst (λ l. length l ≡ 0) e empty) p q (end_of b c x before p end)

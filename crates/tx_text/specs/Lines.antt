@@ -26,20 +26,20 @@ abbrev pub max_lines : ℕ
 max_lines = MAX_LINES
 
 -- what stands first in the bytes, and what is left of them
-abbrev pub Reads : List ℕ → Option (List ℕ) → Found → List ℕ → Type 0
-Reads bytes left Line line = (rest : List ℕ) × (left ≡ Some rest) × (length line ≤ max_line)
+abbrev pub ReadsLine : List ℕ → Option (List ℕ) → Found → List ℕ → Type 0
+ReadsLine bytes left Line line = (rest : List ℕ) × (left ≡ Some rest) × (length line ≤ max_line)
     × (lines_of bytes ≡ line ∷ lines_of rest)
-Reads bytes left Long line = (first : List ℕ) × (more : List (List ℕ)) × (max_line < length first)
+ReadsLine bytes left Long line = (first : List ℕ) × (more : List (List ℕ)) × (max_line < length first)
     × (lines_of bytes ≡ first ∷ more)
-Reads bytes left End line = bytes ≡ []
+ReadsLine bytes left End line = bytes ≡ []
 
 -- no byte of the line is a newline
 abbrev pub NoNewline : List ℕ → Type 0
 NoNewline line = All (λ x. x ≢ 10) line
 
 -- what was taken of known bytes, and put at the end of a line
-abbrev pub Takes : Option (List ℕ) → Option (List ℕ) → List ℕ → List ℕ → Took → Type 0
-Takes old new before after Nothing = (after ≡ before) × Consumes old new [] × IfSome old (λ _. IsAtEnd new)
-Takes old new before after Part = (bs : List ℕ) × (after ≡ before ++ bs) × NoNewline bs × Consumes old new bs
-Takes old new before after Rest = (bs : List ℕ) × (after ≡ before ++ bs) × NoNewline bs
+abbrev pub TakesBytes : Option (List ℕ) → Option (List ℕ) → List ℕ → List ℕ → Took → Type 0
+TakesBytes old new before after Nothing = (after ≡ before) × Consumes old new [] × IfSome old (λ _. IsAtEnd new)
+TakesBytes old new before after Part = (bs : List ℕ) × (after ≡ before ++ bs) × NoNewline bs × Consumes old new bs
+TakesBytes old new before after Rest = (bs : List ℕ) × (after ≡ before ++ bs) × NoNewline bs
     × Consumes old new (bs ++ 10 ∷ [])

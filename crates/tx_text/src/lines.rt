@@ -1,7 +1,7 @@
 //! Reading a text line by line, what is at hand at a time. A line is ended by a newline or by the
 //! end of the input; the last newline begins no line.
 ghost use Rattle.std.specs.Prelude.{◌≡◌, ◌≢◌, ◌<◌, ◌≤◌, length, take, slice_index, All, IfOk, IfSome, true, false};
-ghost use Rattle.tx_text.specs.Lines.{Reads, Takes};
+ghost use Rattle.tx_text.specs.Lines.{ReadsLine, TakesBytes};
 
 use crate::Broken;
 use memchr::memchr;
@@ -40,8 +40,8 @@ fn before_newline(bytes: &[u8]) -> (usize, bool)
 
 // Takes what is at hand, up to the first newline.
 fn take_some<R: BufRead>(reader: &mut R, line: &mut Vec<u8>) -> Result<Took, Broken>
-    ensures { IfOk result (λ took. Takes (R.remaining reader.old) (R.remaining reader.new) line.old.items line.new.items
-        took) }
+    ensures { IfOk result (λ took. TakesBytes (R.remaining reader.old) (R.remaining reader.new)
+        line.old.items line.new.items took) }
 {
     let available = match reader.fill_buf() {
         Ok(available) => available,
@@ -79,7 +79,7 @@ pub fn read_line<R: BufRead>(reader: &mut R, line: &mut Vec<u8>) -> Result<Found
     ensures short { IfOk result (λ found. found ≡ Found.Line → length line.new.items ≤ MAX_LINE_BYTES) }
     // Where the bytes are known.
     ensures reads { IfOk result (λ found. IfSome (R.remaining reader.old)
-        (λ bytes. Reads bytes (R.remaining reader.new) found line.new.items)) }
+        (λ bytes. ReadsLine bytes (R.remaining reader.new) found line.new.items)) }
 {
     line.clear();
     'parts: for _ in 0..u64::MAX {

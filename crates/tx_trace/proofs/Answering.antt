@@ -21,7 +21,7 @@ use Rattle.tx_core.proofs.seats.StaysDecided.{decided_on}
 use Rattle.tx_trace.specs.declared.pending.Pending.{Pending}
 use Rattle.tx_trace.specs.declared.log.TraceLog.{TraceLog}
 use Rattle.tx_trace.specs.Pending.{Accepted, Awaits}
-use Rattle.tx_trace.specs.Logs.{Stands, HasSteps, steps_of, kept_in, ended, Writes, Ends, Tells}
+use Rattle.tx_trace.specs.Logs.{Stands, HasSteps, steps_of, kept_in, ended, AddsSteps, DecidesKept, TellsFate}
 use Rattle.tx_trace.proofs.Effects.{effect_on, accepted_apart, decision_apart}
 
 -- the same of other parts that are equal
@@ -81,7 +81,8 @@ module _ (bounds : List Key) (h : History) (x : Taken) (run : IsWorldRun bounds 
 
     -- ---- requests that name no transaction
 
-    pub reads : start_in x.body ≡ None → checking x.body (effect_in h x) ≡ [] → Writes (reading x.body x.answer) old new
+    pub reads : start_in x.body ≡ None → checking x.body (effect_in h x) ≡ []
+        → AddsSteps (reading x.body x.answer) old new
         → HasSteps (Took x ∷ h) new
     reads none unchecked w =
         record {
@@ -162,7 +163,7 @@ module _ (bounds : List Key) (h : History) (x : Taken) (run : IsWorldRun bounds 
 
     module _ (t : ℕ) (named : start_in x.body ≡ Some t) (unread : reading x.body x.answer
         ≡ []) (unchecked : checking x.body (effect_in h x) ≡ []) (d : Declaration) (is : declared h t ≡ Some d) where
-      ends_done : (end : Fate) → decided h t ≡ Done end → (told : Fate) → Ends t told old new
+      ends_done : (end : Fate) → decided h t ≡ Done end → (told : Fate) → DecidesKept t told old new
           → HasSteps (Took x ∷ h) new
       ends_done end e told ends =
           elim ends [
@@ -170,7 +171,7 @@ module _ (bounds : List Key) (h : History) (x : Taken) (run : IsWorldRun bounds 
             | inr y ↦ (let none = gone_before t d is end e in absurd (cc (none, y.before)))
           ]
 
-      ends_open : decided h t ≡ Open → (end : Fate) → fate_in x.answer ≡ Some end → Ends t end old new
+      ends_open : decided h t ≡ Open → (end : Fate) → fate_in x.answer ≡ Some end → DecidesKept t end old new
           → HasSteps (Took x ∷ h) new
       ends_open e end tells ends =
           elim ends [
@@ -185,10 +186,10 @@ module _ (bounds : List Key) (h : History) (x : Taken) (run : IsWorldRun bounds 
 
       -- the answer tells its fate, or nothing
       pub tells : (fate_in x.answer ≡ None → decided h t ≡ Open → effect_in h x ≡ NoEffect)
-          → Tells t (fate_in x.answer) old new → HasSteps (Took x ∷ h) new
+          → TellsFate t (fate_in x.answer) old new → HasSteps (Took x ∷ h) new
       tells nothing does = go (decided h t) refl (fate_in x.answer) refl does
         where
-          go : (s : State) → decided h t ≡ s → (o : Option Fate) → fate_in x.answer ≡ o → Tells t o old new
+          go : (s : State) → decided h t ≡ s → (o : Option Fate) → fate_in x.answer ≡ o → TellsFate t o old new
               → HasSteps (Took x ∷ h) new
           go (Done end) e None g w = done t named unread [] unchecked end e (gone_before t d is end e) w.steps w.same
           go (Done end) e (Some told) g w = ends_done end e told w

@@ -21,7 +21,7 @@ use Rattle.tx_trace.specs.declared.pending.Pending.{Pending}
 use Rattle.tx_trace.specs.declared.pending.Pending.TheVariants as pending
 use Rattle.tx_trace.specs.declared.log.TraceLog.{TraceLog}
 use Rattle.tx_trace.specs.Pending.{Accepted, AwaitsLocks, Awaits, AreAll, IsFirst}
-use Rattle.tx_trace.specs.Logs.{Stands, Keeps, Tracks, kept_in, checked_in, Enters}
+use Rattle.tx_trace.specs.Logs.{Stands, IsLogOf, Tracks, kept_in, checked_in, Enters}
 use Rattle.tx_trace.proofs.Minimums.{greatest_none}
 
 -- ---- what is waited for at first
@@ -58,7 +58,7 @@ module _ (d : Declaration) (some : d.changes ≢ []) (accepted : Accepted) (none
 -- ---- the declaration
 
 module _ (bounds : List Key) (h : History) (d : Declaration) (run : IsWorldRun bounds (Declared d ∷ h)) (old new :
-    TraceLog) (f : Keeps h old) (enters : Enters d old new) where
+    TraceLog) (f : IsLogOf h old) (enters : Enters d old new) where
   inv : Inv (view bounds h)
   inv = (run_told bounds h run.0).0.sound.inv
 
@@ -105,7 +105,7 @@ module _ (bounds : List Key) (h : History) (d : Declaration) (run : IsWorldRun b
   tracks : Tracks (Declared d ∷ h) (checked_in new)
   tracks = record { accepts = λ t k e. f.1.accepts t k (sym (enters.still t k) ∙ e); inserts = inserts }
 
-  pub declares : Keeps (Declared d ∷ h) new
+  pub declares : IsLogOf (Declared d ∷ h) new
   declares = (
     record {
       shadows = enters.steps ∙ ap (λ s. step.Declare d.start d.changes ∷ s) f.0.shadows;

@@ -26,8 +26,8 @@ use Rattle.tx_core.proofs.runs.AllRuns.{run_told}
 use Rattle.tx_core.proofs.view.HistoryView.{view}
 use Rattle.tx_core.proofs.view.View.{Inv, never_accepted}
 use Rattle.tx_trace.specs.declared.log.TraceLog.{TraceLog}
-use Rattle.tx_trace.specs.Pending.{Kept}
-use Rattle.tx_trace.specs.Logs.{Keeps, HasSteps, Tracks, steps_of, kept_in, checked_in, Locked, Accepts}
+use Rattle.tx_trace.specs.Pending.{PendingByStart}
+use Rattle.tx_trace.specs.Logs.{IsLogOf, HasSteps, Tracks, steps_of, kept_in, checked_in, Locked, Accepts}
 use Rattle.tx_trace.proofs.Effects.{stays_by}
 use Rattle.tx_trace.proofs.Locking.{accepted_now, puts, locked}
 
@@ -70,8 +70,8 @@ module _ (bounds : List Key) (h : History) (inv : Inv (view bounds h)) (b : Prew
         | inr le ↦ omega (arith, le, inv.marks.low b.key)
       ]) no2 no4 no3
 
-module _ (bounds : List Key) (h : History) (n : ℕ) (b : Prewrite) (l m : ℕ) (run :
-    IsWorldRun bounds (Took (took n (body.Prewrite b) l (Prewritten m)) ∷ h)) where
+module _ (bounds : List Key) (h : History) (n : ℕ) (b : Prewrite) (l m : ℕ)
+    (run : IsWorldRun bounds (Took (took n (body.Prewrite b) l (Prewritten m)) ∷ h)) where
   abbrev x : Taken
   x = took n (body.Prewrite b) l (Prewritten m)
 
@@ -142,7 +142,7 @@ module _ (bounds : List Key) (h : History) (n : ℕ) (b : Prewrite) (l m : ℕ) 
       ∙ (ap (mutation_at of.changes) (key_is t k e)
       ∙ (ap (λ (y : Declaration). mutation_at y.changes k) same ∙ ins)))
 
-  module _ (some : of.changes ≢ []) (old new : TraceLog) (f : Keeps h old) (a : Accepts b m old new) where
+  module _ (some : of.changes ≢ []) (old new : TraceLog) (f : IsLogOf h old) (a : Accepts b m old new) where
     unaccepted : (v : Value) → b.mutation ≡ mutation.Insert v → checked_in old b.start b.key ≡ false
         → accepted h b.start b.key ≡ None
     unaccepted v ins unchecked =
@@ -155,7 +155,8 @@ module _ (bounds : List Key) (h : History) (n : ℕ) (b : Prewrite) (l m : ℕ) 
         → HasSteps (Took x ∷ h) new
     steps_by seen checks steps same =
         locked bounds h n b l m run old new f.0 seen checks some
-        (subst (λ (p : List Step × Kept). Locked b.start b.key m p.0 p.1 new) (λ i. (steps i, λ q. same q i)) a.locks)
+        (subst (λ (p : List Step × PendingByStart). Locked b.start b.key m p.0 p.1 new)
+        (λ i. (steps i, λ q. same q i)) a.locks)
 
     -- nothing more is checked: where it inserts, its key was
     tracks_still : ((t : ℕ) (k : Key) → checked_in new t k ≡ checked_in old t k)
@@ -192,7 +193,7 @@ module _ (bounds : List Key) (h : History) (n : ℕ) (b : Prewrite) (l m : ℕ) 
         → checked_in old b.start b.key ≡ true
     no_insert none v ins = (let is = check_of b.mutation v b.start ins in absurd (cc (none, is)))
 
-    pub accepts : Keeps (Took x ∷ h) new
+    pub accepts : IsLogOf (Took x ∷ h) new
     accepts =
         elim a.checks [
           | inl y ↦ (

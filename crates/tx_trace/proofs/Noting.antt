@@ -15,7 +15,7 @@ use Rattle.tx_core.specs.Decisions.{accepted, decided}
 use Rattle.tx_trace.specs.declared.pending.Pending.{Pending}
 use Rattle.tx_trace.specs.declared.pending.Pending.TheVariants as pending
 use Rattle.tx_trace.specs.declared.log.TraceLog.{TraceLog}
-use Rattle.tx_trace.specs.Logs.{Stands, Keeps, GoesOn, kept_in, Stays as Remains}
+use Rattle.tx_trace.specs.Logs.{Stands, IsLogOf, LogGoesOn, kept_in, Stays as Remains}
 use Rattle.tx_trace.specs.Traces.{Noted, waits_of, pending_of, noted, kept_of, Traces, Adds, Stays}
 use Rattle.tx_trace.proofs.Requests.{on_ok}
 
@@ -34,7 +34,7 @@ seen t (e ∷ es) = elim (cases_Bool (tree.is_at (nat_cmp t) e.0)) [
 kept_is : (log : TraceLog) (t : ℕ) → kept_of (noted log).waits t ≡ kept_in log t
 kept_is log t = seen t log.pending.entries
 
-pub outward : (h : History) (log : TraceLog) → Keeps h log → Traces h (noted log)
+pub outward : (h : History) (log : TraceLog) → IsLogOf h log → Traces h (noted log)
 outward h log k = (
   record {
     shadows = k.0.shadows;
@@ -44,7 +44,7 @@ outward h log k = (
   k.1,
 )
 
-pub inward : (h : History) (log : TraceLog) → Traces h (noted log) → Keeps h log
+pub inward : (h : History) (log : TraceLog) → Traces h (noted log) → IsLogOf h log
 inward h log k = (
   record {
     shadows = k.0.shadows;
@@ -55,7 +55,7 @@ inward h log k = (
 )
 
 -- what is said of a log is said of its trace
-pub adds_out : (old new : TraceLog) (e : Event) → GoesOn old e new → Adds (noted old) e (noted new)
+pub adds_out : (old new : TraceLog) (e : Event) → LogGoesOn old e new → Adds (noted old) e (noted new)
 adds_out old new e goes bounds h run t = outward (e ∷ h) new (goes bounds h run (inward h old t))
 
 pub stays_out : (old new : TraceLog) → Remains old new → Stays (noted old) (noted new)
@@ -68,22 +68,22 @@ on_err (Err e) A B f a = f a
 -- ---- by what a call gave
 
 module _ {E : Type 0} (r : Result (Unit {0}) E) (old new : TraceLog) (o : Noted) (is : noted old ≡ o) where
-  pub adds_view : (e : Event) → OnOk r (GoesOn old e new) → OnOk r (Adds o e (noted new))
+  pub adds_view : (e : Event) → OnOk r (LogGoesOn old e new) → OnOk r (Adds o e (noted new))
   adds_view e ok = subst (λ (n : Noted). OnOk r (Adds n e (noted new))) is
-      (on_ok r (GoesOn old e new) (Adds (noted old) e (noted new)) (adds_out old new e) ok)
+      (on_ok r (LogGoesOn old e new) (Adds (noted old) e (noted new)) (adds_out old new e) ok)
 
-  pub drawn_view : (t : ℕ) → OnOk r ((seat : ℕ) → GoesOn old (Drawn seat t) new)
+  pub drawn_view : (t : ℕ) → OnOk r ((seat : ℕ) → LogGoesOn old (Drawn seat t) new)
       → OnOk r ((seat : ℕ) → Adds o (Drawn seat t) (noted new))
   drawn_view t ok = subst (λ (n : Noted). OnOk r ((seat : ℕ) → Adds n (Drawn seat t) (noted new))) is
-      (on_ok r ((seat : ℕ) → GoesOn old (Drawn seat t) new) ((seat : ℕ)
+      (on_ok r ((seat : ℕ) → LogGoesOn old (Drawn seat t) new) ((seat : ℕ)
       → Adds (noted old) (Drawn seat t) (noted new)) (λ f seat. adds_out old new (Drawn seat t) (f seat)) ok)
 
   pub taken_view : (body : Body) (a : Answer)
-      → OnOk r ((x : Taken) → x.body ≡ body → x.answer ≡ a → GoesOn old (Took x) new)
+      → OnOk r ((x : Taken) → x.body ≡ body → x.answer ≡ a → LogGoesOn old (Took x) new)
       → OnOk r ((x : Taken) → x.body ≡ body → x.answer ≡ a → Adds o (Took x) (noted new))
   taken_view body a ok =
       subst (λ (n : Noted). OnOk r ((x : Taken) → x.body ≡ body → x.answer ≡ a → Adds n (Took x) (noted new))) is
-      (on_ok r ((x : Taken) → x.body ≡ body → x.answer ≡ a → GoesOn old (Took x) new) ((x : Taken) → x.body ≡ body
+      (on_ok r ((x : Taken) → x.body ≡ body → x.answer ≡ a → LogGoesOn old (Took x) new) ((x : Taken) → x.body ≡ body
       → x.answer ≡ a → Adds (noted old) (Took x) (noted new)) (λ f x e g. adds_out old new (Took x) (f x e g)) ok)
 
   pub stays_view : OnErr r (Remains old new) → OnErr r (Stays o (noted new))

@@ -34,7 +34,7 @@ use Rattle.tx_core.proofs.view.View.{first_declared}
 use Rattle.tx_core.proofs.runs.Consequences.{decided_declared}
 use Rattle.tx_core.proofs.requests.Good.{took}
 use Rattle.tx_trace.specs.declared.log.TraceLog.{TraceLog}
-use Rattle.tx_trace.specs.Logs.{steps_of, checked_in, Keeps, Tracks, GoesOn, Writes, Tells, Prewrites}
+use Rattle.tx_trace.specs.Logs.{steps_of, checked_in, IsLogOf, Tracks, LogGoesOn, AddsSteps, TellsFate, Prewrites}
 use Rattle.tx_trace.proofs.Answering.{reads, tells}
 use Rattle.tx_trace.proofs.Effects.{none_put}
 use Rattle.tx_trace.proofs.Inserting.{accepts}
@@ -47,16 +47,16 @@ on_ok (Err e) A B f a = tt
 -- the trace goes on with this request and answer, of whatever region and with
 -- whatever number loaded
 abbrev pub Follow : TraceLog → Body → Answer → TraceLog → Type 0
-Follow old body a new = (x : Taken) → x.body ≡ body → x.answer ≡ a → GoesOn old (Took x) new
+Follow old body a new = (x : Taken) → x.body ≡ body → x.answer ≡ a → LogGoesOn old (Took x) new
 
 module _ (old new : TraceLog) where
   of_taken : (body : Body) (a : Answer)
-      → ((bounds : List Key) (h : History) (n l : ℕ) → IsWorldRun bounds (Took (took n body l a) ∷ h) → Keeps h old
-      → Keeps (Took (took n body l a) ∷ h) new) → Follow old body a new
+      → ((bounds : List Key) (h : History) (n l : ℕ) → IsWorldRun bounds (Took (took n body l a) ∷ h) → IsLogOf h old
+      → IsLogOf (Took (took n body l a) ∷ h) new) → Follow old body a new
   of_taken body a all x e f bounds h run t =
       let same : took x.region body x.loaded a ≡ x =
       λ i. record { region = x.region; body = sym e i; loaded = x.loaded; answer = sym f i } in
-      subst (λ y. Keeps (Took y ∷ h) new) same
+      subst (λ y. IsLogOf (Took y ∷ h) new) same
       (all bounds h x.region x.loaded (subst (λ y. IsWorldRun bounds (Took y ∷ h)) (sym same) run) t)
 
   -- ---- nothing more is accepted
@@ -74,21 +74,21 @@ module _ (old new : TraceLog) where
         inserts = λ t d k v is ins now. still t k ∙ f.inserts t d k v is ins (λ none. now (same t k ∙ none));
       }
 
-  told_still : (t : ℕ) (o : Option Fate) → Tells t o old new → (q : ℕ) (k : Key)
+  told_still : (t : ℕ) (o : Option Fate) → TellsFate t o old new → (q : ℕ) (k : Key)
       → checked_in new q k ≡ checked_in old q k
   told_still t None w = w.still
   told_still t (Some end) w = elim w [ inl y ↦ y.1.still | inr y ↦ y.still ]
 
   -- ---- reads
 
-  pub get_adds : (b : Get) (a : Answer) → Writes (reading (body.Get b) a) old new → Follow old (body.Get b) a new
+  pub get_adds : (b : Get) (a : Answer) → AddsSteps (reading (body.Get b) a) old new → Follow old (body.Get b) a new
   get_adds b a w = of_taken (body.Get b) a
       (λ bounds h n l run t. (
         reads bounds h (took n (body.Get b) l a) run old new t.0 refl refl w,
         apart_tracks h (took n (body.Get b) l a) (λ c m e f. cc e) w.still t.1,
       ))
 
-  pub scan_adds : (b : Scan) (a : Answer) → Writes (reading (body.Scan b) a) old new → Follow old (body.Scan b) a new
+  pub scan_adds : (b : Scan) (a : Answer) → AddsSteps (reading (body.Scan b) a) old new → Follow old (body.Scan b) a new
   scan_adds b a w = of_taken (body.Scan b) a
       (λ bounds h n l run t. (
         reads bounds h (took n (body.Scan b) l a) run old new t.0 refl refl w,
@@ -129,15 +129,16 @@ module _ (old new : TraceLog) where
   commit_declared bounds h b run (inr may) =
       λ none. (cc (none, (first_declared (declared h b.start) b.key may.primary).1))
 
-  pub commit_adds : (b : Commit) (a : Answer) → Tells b.start (fate_in a) old new → Follow old (body.Commit b) a new
+  pub commit_adds : (b : Commit) (a : Answer) → TellsFate b.start (fate_in a) old new → Follow old (body.Commit b) a new
   commit_adds b a w = of_taken (body.Commit b) a
-      (λ bounds h n l run t. (let of = some_of (declared h b.start) (commit_declared bounds h b run.0 run.1.allowed) in (
+      (λ bounds h n l run t. (let of =
+      some_of (declared h b.start) (commit_declared bounds h b run.0 run.1.allowed) in (
         tells bounds h (took n (body.Commit b) l a) run old new t.0 b.start refl refl refl of.0 of.1
             (λ e still. no_commit (left h n).cells b a e) w,
         apart_tracks h (took n (body.Commit b) l a) (λ c m e f. cc e) (told_still b.start (fate_in a) w) t.1,
       )))
 
-  pub rollback_adds : (b : BatchRollback) (a : Answer) → Tells b.start (fate_in a) old new
+  pub rollback_adds : (b : BatchRollback) (a : Answer) → TellsFate b.start (fate_in a) old new
       → Follow old (body.BatchRollback b) a new
   rollback_adds b a w =
       of_taken (body.BatchRollback b) a
@@ -147,7 +148,7 @@ module _ (old new : TraceLog) where
         apart_tracks h (took n (body.BatchRollback b) l a) (λ c m e f. cc e) (told_still b.start (fate_in a) w) t.1,
       ))
 
-  pub check_adds : (b : CheckTxnStatus) (a : Answer) → Tells b.start (fate_in a) old new
+  pub check_adds : (b : CheckTxnStatus) (a : Answer) → TellsFate b.start (fate_in a) old new
       → Follow old (body.CheckTxnStatus b) a new
   check_adds b a w = of_taken (body.CheckTxnStatus b) a
       (λ bounds h n l run t. (let of = first_declared (declared h b.start) b.key run.1.allowed.primary in (
@@ -156,7 +157,7 @@ module _ (old new : TraceLog) where
         apart_tracks h (took n (body.CheckTxnStatus b) l a) (λ c m e f. cc e) (told_still b.start (fate_in a) w) t.1,
       )))
 
-  pub secondary_adds : (b : CheckSecondaryLocks) (a : Answer) → Tells b.start (fate_in a) old new
+  pub secondary_adds : (b : CheckSecondaryLocks) (a : Answer) → TellsFate b.start (fate_in a) old new
       → Follow old (body.CheckSecondaryLocks b) a new
   secondary_adds b a w =
       of_taken (body.CheckSecondaryLocks b) a
@@ -167,7 +168,7 @@ module _ (old new : TraceLog) where
             t.1,
       ))
 
-  pub beat_adds : (b : TxnHeartBeat) (a : Answer) → Tells b.start (fate_in a) old new
+  pub beat_adds : (b : TxnHeartBeat) (a : Answer) → TellsFate b.start (fate_in a) old new
       → Follow old (body.TxnHeartBeat b) a new
   beat_adds b a w = of_taken (body.TxnHeartBeat b) a
       (λ bounds h n l run t. (let of = some_of (declared h b.start) run.1.allowed in (
@@ -177,7 +178,7 @@ module _ (old new : TraceLog) where
             (told_still b.start (fate_in a) w) t.1,
       )))
 
-  pub resolve_adds : (b : ResolveLock) (a : Answer) → Tells b.start (fate_in a) old new
+  pub resolve_adds : (b : ResolveLock) (a : Answer) → TellsFate b.start (fate_in a) old new
       → Follow old (body.ResolveLock b) a new
   resolve_adds b a w = of_taken (body.ResolveLock b) a
       (λ bounds h n l run t. (let of = some_of (declared h b.start)
@@ -191,13 +192,14 @@ module _ (old new : TraceLog) where
   some_set [] k e none = cc e
   some_set (c ∷ cs) k e none = cc none
 
-  prewrite_other : (b : Prewrite) (a : Answer) → ((m : ℕ) → a ≢ Prewritten m) → Tells b.start (fate_in a) old new
+  prewrite_other : (b : Prewrite) (a : Answer) → ((m : ℕ) → a ≢ Prewritten m) → TellsFate b.start (fate_in a) old new
       → Follow old (body.Prewrite b) a new
   prewrite_other b a other w =
       of_taken (body.Prewrite b) a
       (λ bounds h n l run t. (
         tells bounds h (took n (body.Prewrite b) l a) run old new t.0 b.start refl refl
-            (ap (checking (body.Prewrite b)) (no_prewrite (left h n).cells b a other)) run.1.allowed.of run.1.allowed.stands
+            (ap (checking (body.Prewrite b)) (no_prewrite (left h n).cells b a other)) run.1.allowed.of
+            run.1.allowed.stands
             (λ e still. no_prewrite (left h n).cells b a other) w,
         apart_tracks h (took n (body.Prewrite b) l a) (λ c m e f. other m f) (told_still b.start (fate_in a) w) t.1,
       ))

@@ -10,7 +10,7 @@ use Rattle.tx_core.proofs.Basics.{key_test, key_same, some_of, some_same}
 use Rattle.tx_trace.specs.declared.pending.Locks.{Locks}
 use Rattle.tx_trace.specs.declared.pending.Pending.{Pending}
 use Rattle.tx_trace.specs.declared.pending.Pending.TheVariants as pending
-use Rattle.tx_trace.specs.Pending.{Accepted, has, minimum_in, greatest_in, AwaitsLocks, Awaits, Takes, Completes, Accepts}
+use Rattle.tx_trace.specs.Pending.{Accepted, has, minimum_in, greatest_in, AwaitsLocks, Awaits, TakesOutKey, Completes, Accepts}
 use Rattle.tx_trace.proofs.Minimums.{two_phase_minimum, no_minimum, not_all, all_async, greatest_more, greatest_same}
 
 -- the acceptance of a key with this minimum, 0 of a two-phase lock
@@ -95,7 +95,7 @@ module _ (d : Declaration) (some : d.changes ≢ []) (old new : Accepted) (k : K
         min = w.min ∙ sym (greatest_same old new same d.changes);
       }
 
-  module _ (locks next : Locks) (w : AwaitsLocks d.changes old locks) (t : Takes locks k m next) where
+  module _ (locks next : Locks) (w : AwaitsLocks d.changes old locks) (t : TakesOutKey locks k m next) where
     first : (by : Acceptance) × (new k ≡ Some by) × IsNew m by
     first = gains.now (w.left k t.was)
 
@@ -164,7 +164,7 @@ module _ (d : Declaration) (some : d.changes ≢ []) (old new : Accepted) (k : K
       let by = gains.now (w.left k left) in
       inr (record { key = k; by = by.0; within = within; stands = by.1; two_phase = by.2.two_phase zero })
 
-  taken : (locks next : Locks) (commit : Option ℕ) → AwaitsLocks d.changes old locks → Takes locks k m next
+  taken : (locks next : Locks) (commit : Option ℕ) → AwaitsLocks d.changes old locks → TakesOutKey locks k m next
       → Completes next commit → Comes (pending.Locks next) commit
   taken locks next None w t some = waits_on (pending.Locks next) None refl (takes_some locks next w t some.0 some.1)
   taken locks next (Some c) w t none =

@@ -27,7 +27,7 @@ use Rattle.tx_core.specs.Worlds.{IsWorldRun}
 use Rattle.tx_core.specs.Shadow.{shadow}
 use Rattle.tx_trace.specs.declared.pending.Pending.{Pending}
 use Rattle.tx_trace.specs.declared.log.TraceLog.{TraceLog}
-use Rattle.tx_trace.specs.Pending.{Accepted, Awaits, Kept, IsFirst, AcceptsIn}
+use Rattle.tx_trace.specs.Pending.{Accepted, Awaits, PendingByStart, IsFirst, AcceptsIn}
 
 -- a declared transaction that is not decided is kept with what it waits for, one that is
 -- decided is not kept
@@ -38,7 +38,7 @@ Stands Open d accepted (Some pending) = Awaits d accepted pending
 
 -- the steps are those of the machine that are read off the history, newest first, and each
 -- transaction stands as it does there
-pub record Follows (h : History) (steps : List Step) (kept : Kept) : Type 0 where
+pub record Follows (h : History) (steps : List Step) (kept : PendingByStart) : Type 0 where
   pub shadows : steps ≡ shadow h
   pub pending : (t : ℕ) (d : Declaration) → declared h t ≡ Some d → Stands (decided h t) d (accepted h t) (kept t)
 
@@ -58,7 +58,7 @@ abbrev pub steps_of : TraceLog → List Step
 steps_of log = reverse log.steps.items
 
 -- what it keeps
-abbrev pub kept_in : TraceLog → Kept
+abbrev pub kept_in : TraceLog → PendingByStart
 kept_in log = tree.get nat_cmp log.pending
 
 -- the order of the pairs of a start and a key
@@ -74,16 +74,17 @@ abbrev pub HasSteps : History → TraceLog → Type 0
 HasSteps h log = Follows h (steps_of log) (kept_in log)
 
 -- The log is of the history: it has just the steps of the machine that are read off it.
-abbrev pub Keeps : History → TraceLog → Type 0
-Keeps h log = HasSteps h log × Tracks h (checked_in log)
+abbrev pub IsLogOf : History → TraceLog → Type 0
+IsLogOf h log = HasSteps h log × Tracks h (checked_in log)
 
 -- The log goes on with an event, whatever run it is of.
-abbrev pub GoesOn : TraceLog → Event → TraceLog → Type 0
-GoesOn old e new = (bounds : List Key) (h : History) → IsWorldRun bounds (e ∷ h) → Keeps h old → Keeps (e ∷ h) new
+abbrev pub LogGoesOn : TraceLog → Event → TraceLog → Type 0
+LogGoesOn old e new = (bounds : List Key) (h : History) → IsWorldRun bounds (e ∷ h) → IsLogOf h old
+    → IsLogOf (e ∷ h) new
 
 -- the log is of the histories that it was of
 abbrev pub Stays : TraceLog → TraceLog → Type 0
-Stays old new = (h : History) → Keeps h old → Keeps h new
+Stays old new = (h : History) → IsLogOf h old → IsLogOf h new
 
 -- ---- parts of an event
 
@@ -93,7 +94,7 @@ ended t (Committed c) = step.Commit t c
 ended t Aborted = step.Abort t
 
 -- some steps are added, and what is kept is the same
-pub record Writes (more : List Step) (old new : TraceLog) : Type 0 where
+pub record AddsSteps (more : List Step) (old new : TraceLog) : Type 0 where
   pub steps : steps_of new ≡ more ++ steps_of old
   pub same : (t : ℕ) → kept_in new t ≡ kept_in old t
   pub still : (t : ℕ) (k : Key) → checked_in new t k ≡ checked_in old t k
@@ -107,30 +108,30 @@ pub record Decides (t : ℕ) (end : Fate) (old new : TraceLog) : Type 0 where
   pub still : (q : ℕ) (k : Key) → checked_in new q k ≡ checked_in old q k
 
 -- a transaction is decided, if it is kept
-abbrev pub Ends : ℕ → Fate → TraceLog → TraceLog → Type 0
-Ends t end old new = ((kept_in old t ≡ None) × Writes [] old new) ⊎ Decides t end old new
+abbrev pub DecidesKept : ℕ → Fate → TraceLog → TraceLog → Type 0
+DecidesKept t end old new = ((kept_in old t ≡ None) × AddsSteps [] old new) ⊎ Decides t end old new
 
 -- an answer that tells a fate decides
-abbrev pub Tells : ℕ → Option Fate → TraceLog → TraceLog → Type 0
-Tells t None old new = Writes [] old new
-Tells t (Some end) old new = Ends t end old new
+abbrev pub TellsFate : ℕ → Option Fate → TraceLog → TraceLog → Type 0
+TellsFate t None old new = AddsSteps [] old new
+TellsFate t (Some end) old new = DecidesKept t end old new
 
 -- a transaction is committed, where that is completed: its step is added, and it is kept no more
-abbrev pub Closes : ℕ → List Step → Kept → TraceLog → Option ℕ → Type 0
+abbrev pub Closes : ℕ → List Step → PendingByStart → TraceLog → Option ℕ → Type 0
 Closes t steps between new None = (steps_of new ≡ steps) × ((q : ℕ) → kept_in new q ≡ between q)
 Closes t steps between new (Some c) = (steps_of new ≡ step.Commit t c ∷ steps)
     × ((q : ℕ) → kept_in new q ≡ cond (t == q) None (between q))
 
 -- A key of a transaction is locked with the minimum m, after these steps and where these are kept:
 -- where the transaction is kept, the key is accepted, and the last key commits it.
-pub record Locked (t : ℕ) (k : Key) (m : ℕ) (steps : List Step) (kept : Kept) (new : TraceLog) : Type 0 where
-  pub between : Kept
+pub record Locked (t : ℕ) (k : Key) (m : ℕ) (steps : List Step) (kept : PendingByStart) (new : TraceLog) : Type 0 where
+  pub between : PendingByStart
   pub commit : Option ℕ
   pub accepts : AcceptsIn t k m kept between commit
   pub closes : Closes t steps between new commit
 
 -- the read of an insert's check is added, and its key is checked from now on
-pub record Reads (b : Prewrite) (old new : TraceLog) : Type 0 where
+pub record AddsCheck (b : Prewrite) (old new : TraceLog) : Type 0 where
   pub inserts : check_by b.mutation b.start ≡ Some b.start
   pub first : checked_in old b.start b.key ≡ false
   pub steps : steps_of new ≡ step.Read b.key b.start None ∷ steps_of old
@@ -141,8 +142,8 @@ pub record Reads (b : Prewrite) (old new : TraceLog) : Type 0 where
 -- A prewrite was accepted: where it inserts a key that is not checked yet, the read of its check is
 -- added.
 abbrev pub Checks : Prewrite → TraceLog → TraceLog → Type 0
-Checks b old new = ((check_by b.mutation b.start ≡ None) × Writes [] old new)
-    ⊎ (((checked_in old b.start b.key ≡ true) × Writes [] old new) ⊎ Reads b old new)
+Checks b old new = ((check_by b.mutation b.start ≡ None) × AddsSteps [] old new)
+    ⊎ (((checked_in old b.start b.key ≡ true) × AddsSteps [] old new) ⊎ AddsCheck b old new)
 
 -- a prewrite is accepted with the minimum m: its check comes before what its lock decides
 pub record Accepts (b : Prewrite) (m : ℕ) (old new : TraceLog) : Type 0 where
@@ -154,7 +155,7 @@ pub record Accepts (b : Prewrite) (m : ℕ) (old new : TraceLog) : Type 0 where
 -- a prewrite is answered
 abbrev pub Prewrites : Prewrite → Answer → TraceLog → TraceLog → Type 0
 Prewrites b (Prewritten m) old new = Accepts b m old new
-Prewrites b a old new = Tells b.start (fate_in a) old new
+Prewrites b a old new = TellsFate b.start (fate_in a) old new
 
 -- a transaction is kept from its declaration on
 pub record Enters (d : Declaration) (old new : TraceLog) : Type 0 where

@@ -72,7 +72,7 @@ IsFirst d pending.Primary = d.mode ≡ TwoPhase
 IsFirst d (pending.Locks locks) = AreAll d.changes locks
 
 -- the key k is taken out, and the minimum m in
-pub record Takes (old : Locks) (k : Key) (m : ℕ) (new : Locks) : Type 0 where
+pub record TakesOutKey (old : Locks) (k : Key) (m : ℕ) (new : Locks) : Type 0 where
   pub was : has old.left k ≡ true
   pub gone : has new.left k ≡ false
   pub others : (q : Key) → q ≢ k → has new.left q ≡ has old.left q
@@ -90,16 +90,16 @@ abbrev pub Accepts : Pending → Key → ℕ → Pending → Option ℕ → Type
 Accepts pending.Primary k m new commit = (new ≡ pending.Primary) × (commit ≡ None)
 Accepts (pending.Locks old) k m pending.Primary commit = (has old.left k ≡ true) × (m ≡ 0) × (commit ≡ None)
 Accepts (pending.Locks old) k m (pending.Locks new) commit = ((has old.left k ≡ false) × (new ≡ old) × (commit ≡ None))
-    ⊎ (Takes old k m new × Completes new commit)
+    ⊎ (TakesOutKey old k m new × Completes new commit)
 
 -- ---- of all transactions
 
 -- what each transaction that is kept waits for, by its start
-abbrev pub Kept : Type 0
-Kept = ℕ → Option Pending
+abbrev pub PendingByStart : Type 0
+PendingByStart = ℕ → Option Pending
 
 -- the transaction that starts at t is kept, and its key k is accepted
-pub record Turns (t : ℕ) (k : Key) (m : ℕ) (old new : Kept) (commit : Option ℕ) : Type 0 where
+pub record Turns (t : ℕ) (k : Key) (m : ℕ) (old new : PendingByStart) (commit : Option ℕ) : Type 0 where
   pub was : Pending
   pub now : Pending
   pub before : old t ≡ Some was
@@ -107,6 +107,6 @@ pub record Turns (t : ℕ) (k : Key) (m : ℕ) (old new : Kept) (commit : Option
   pub changed : (q : ℕ) → new q ≡ cond (t == q) (Some now) (old q)
 
 -- if it is kept, its key k is accepted
-abbrev pub AcceptsIn : ℕ → Key → ℕ → Kept → Kept → Option ℕ → Type 0
+abbrev pub AcceptsIn : ℕ → Key → ℕ → PendingByStart → PendingByStart → Option ℕ → Type 0
 AcceptsIn t k m old new commit = ((old t ≡ None) × ((q : ℕ) → new q ≡ old q) × (commit ≡ None))
     ⊎ Turns t k m old new commit

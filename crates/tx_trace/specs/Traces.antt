@@ -12,7 +12,7 @@ use Rattle.tx_core.specs.Worlds.{IsWorldRun}
 use Rattle.tx_trace.specs.declared.pending.Pending.{Pending}
 use Rattle.tx_trace.specs.declared.pending.Pending.TheVariants as pending
 use Rattle.tx_trace.specs.declared.log.TraceLog.{TraceLog}
-use Rattle.tx_trace.specs.Pending.{Kept}
+use Rattle.tx_trace.specs.Pending.{PendingByStart}
 use Rattle.tx_trace.specs.Logs.{Follows, Checked, Tracks, by_start}
 
 -- what a transaction waits for: the keys that are left and the greatest minimum so far, or none
@@ -44,7 +44,7 @@ noted log = record {
 }
 
 -- what each transaction waits for
-abbrev pub kept_of : List (ℕ × Waits) → Kept
+abbrev pub kept_of : List (ℕ × Waits) → PendingByStart
 kept_of waits t = option_map pending_of (lookup (tree.is_at (nat_cmp t)) waits)
 
 -- which keys were checked

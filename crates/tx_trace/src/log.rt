@@ -8,7 +8,7 @@ ghost use Rattle.tx_core.specs.declared.event.Taken.{Taken};
 ghost use Rattle.tx_plan.specs.cases.Prewrite.{check_by};
 ghost use Rattle.tx_core.specs.Decisions.{fate_in};
 ghost use Rattle.tx_core.specs.EventSteps.{reading};
-ghost use Rattle.tx_trace.specs.Logs.{Keeps, GoesOn, Stays, steps_of, kept_in, checked_in, Writes, Ends, Tells, Locked, Checks, Prewrites, Enters, ended};
+ghost use Rattle.tx_trace.specs.Logs.{IsLogOf, LogGoesOn, Stays, steps_of, kept_in, checked_in, AddsSteps, DecidesKept, TellsFate, Locked, Checks, Prewrites, Enters, ended};
 
 use crate::pending::{Pending, accept_in};
 use std::alloc::Global;
@@ -48,7 +48,7 @@ fn declaring(of: &Declaration) -> Result<Step, Fault>
 impl TraceLog {
     /// The log of no event.
     pub fn new(alloc: Global) -> TraceLog
-        ensures { Keeps [] result }
+        ensures { IsLogOf [] result }
     {
         TraceLog {
             alloc,
@@ -67,7 +67,7 @@ impl TraceLog {
 
     // Adds a step.
     fn write(&mut self, step: Step) -> Result<(), Fault>
-        ensures ok { OnOk result (Writes (step ∷ []) self.old self.new) }
+        ensures ok { OnOk result (AddsSteps (step ∷ []) self.old self.new) }
         ensures same { OnErr result (Stays self.old self.new) }
         ensures err { IfErr result (λ e. e ≡ Fault.OutOfMemory) }
     {
@@ -91,7 +91,7 @@ impl TraceLog {
 
     // A transaction is decided, if it is kept.
     fn end(&mut self, start: Ts, fate: Fate) -> Result<(), Fault>
-        ensures ok { OnOk result (Ends start fate self.old self.new) }
+        ensures ok { OnOk result (DecidesKept start fate self.old self.new) }
         ensures same { OnErr result (Stays self.old self.new) }
         ensures err { IfErr result (λ e. e ≡ Fault.OutOfMemory) }
     {
@@ -104,7 +104,7 @@ impl TraceLog {
 
     // A transaction is decided where an answer tells its fate.
     fn tell(&mut self, start: Ts, answer: &Answer) -> Result<(), Fault>
-        ensures ok { OnOk result (Tells start (fate_in answer.now) self.old self.new) }
+        ensures ok { OnOk result (TellsFate start (fate_in answer.now) self.old self.new) }
         ensures same { OnErr result (Stays self.old self.new) }
         ensures err { IfErr result (λ e. e ≡ Fault.OutOfMemory) }
     {
@@ -161,7 +161,7 @@ impl TraceLog {
 
     // A read of one key is answered.
     fn read(&mut self, body: &Get, answer: &Answer) -> Result<(), Fault>
-        ensures ok { OnOk result (Writes (reading (request.Get body.now) answer.now) self.old self.new) }
+        ensures ok { OnOk result (AddsSteps (reading (request.Get body.now) answer.now) self.old self.new) }
         ensures same { OnErr result (Stays self.old self.new) }
         ensures err { IfErr result (λ e. e ≡ Fault.OutOfMemory) }
     {
@@ -175,7 +175,7 @@ impl TraceLog {
 
     // A read of a range is answered.
     fn scan(&mut self, body: &Scan, answer: &Answer) -> Result<(), Fault>
-        ensures ok { OnOk result (Writes (reading (request.Scan body.now) answer.now) self.old self.new) }
+        ensures ok { OnOk result (AddsSteps (reading (request.Scan body.now) answer.now) self.old self.new) }
         ensures same { OnErr result (Stays self.old self.new) }
         ensures err { IfErr result (λ e. e ≡ Fault.OutOfMemory) }
     {
@@ -211,7 +211,7 @@ impl TraceLog {
     /// Goes on with a request that a region took, and its answer.
     pub fn took(&mut self, body: &Body, answer: &Answer) -> Result<(), Fault>
         ensures ok { OnOk result ((x : Taken) → x.body ≡ body.now → x.answer ≡ answer.now
-            → GoesOn self.old (event.Took x) self.new) }
+            → LogGoesOn self.old (event.Took x) self.new) }
         ensures same { OnErr result (Stays self.old self.new) }
         ensures err { IfErr result (λ e. e ≡ Fault.OutOfMemory) }
     {
@@ -231,7 +231,7 @@ impl TraceLog {
 
     /// Goes on with a number that a seat drew.
     pub fn drew(&mut self, ts: Ts) -> Result<(), Fault>
-        ensures ok { OnOk result ((seat : ℕ) → GoesOn self.old (event.Drawn seat ts) self.new) }
+        ensures ok { OnOk result ((seat : ℕ) → LogGoesOn self.old (event.Drawn seat ts) self.new) }
         ensures same { OnErr result (Stays self.old self.new) }
         ensures err { IfErr result (λ e. e ≡ Fault.OutOfMemory) }
     {
@@ -240,7 +240,7 @@ impl TraceLog {
 
     /// Goes on with a transaction that began.
     pub fn began(&mut self, start: Ts) -> Result<(), Fault>
-        ensures ok { OnOk result (GoesOn self.old (event.Began start) self.new) }
+        ensures ok { OnOk result (LogGoesOn self.old (event.Began start) self.new) }
         ensures same { OnErr result (Stays self.old self.new) }
         ensures err { IfErr result (λ e. e ≡ Fault.OutOfMemory) }
     {
@@ -249,7 +249,7 @@ impl TraceLog {
 
     /// Goes on with what a transaction declared.
     pub fn declared(&mut self, of: &Declaration) -> Result<(), Fault>
-        ensures ok { OnOk result (GoesOn self.old (event.Declared of.now) self.new) }
+        ensures ok { OnOk result (LogGoesOn self.old (event.Declared of.now) self.new) }
         ensures same { OnErr result (Stays self.old self.new) }
         ensures err { IfErr result (λ e. e ≡ Fault.OutOfMemory) }
     {
@@ -258,7 +258,7 @@ impl TraceLog {
 
     /// Goes on with what a session answered of its transaction.
     pub fn answered(&mut self, start: Ts, outcome: Outcome) -> Result<(), Fault>
-        ensures ok { OnOk result (GoesOn self.old (event.Answered start outcome) self.new) }
+        ensures ok { OnOk result (LogGoesOn self.old (event.Answered start outcome) self.new) }
         ensures same { OnErr result (Stays self.old self.new) }
         ensures err { IfErr result (λ e. e ≡ Fault.OutOfMemory) }
     {

@@ -4,7 +4,7 @@ ghost use Rattle.std.specs.BTreeMap as tree;
 ghost use Rattle.std.specs.Ordering.{nat_cmp};
 ghost use Rattle.tx_types.specs.declared.key.Key.{Key};
 ghost use Rattle.tx_machine.specs.Keys.{mutation_at};
-ghost use Rattle.tx_trace.specs.Pending.{has, IsFirst, Takes, Completes, Accepts, AcceptsIn};
+ghost use Rattle.tx_trace.specs.Pending.{has, IsFirst, TakesOutKey, Completes, Accepts, AcceptsIn};
 
 use std::alloc::Global;
 use std::collections::{BTreeMap, BTreeSet};
@@ -47,7 +47,7 @@ impl Locks {
     fn take(&mut self, key: &Key, min: Ts) -> Option<Ts>
         requires left { has self.old.left key.now ≡ true }
         requires minimum { min ≢ 0 }
-        ensures takes { Takes self.old key.now min self.new }
+        ensures takes { TakesOutKey self.old key.now min self.new }
         ensures completes { Completes self.new result }
     {
         self.left.remove(key);

@@ -14,7 +14,8 @@ turned j k = elim (key_test j k) [
 ]
 
 -- what the map finds is what is buffered
-pub found : (es : Entries) (k : Key) → option_map (λ (e : BufferEntry). e.mutation) (lookup (λ q. bytes_eq k q) es) ≡ buffered es k
+pub found : (es : Entries) (k : Key)
+    → option_map (λ (e : BufferEntry). e.mutation) (lookup (λ q. bytes_eq k q) es) ≡ buffered es k
 found [] k = refl
 found (e ∷ es) k = elim (key_test e.0 k) [
   | inl x ↦ rw (x.0, sym (turned e.0 k) ∙ x.0) refl
@@ -22,11 +23,15 @@ found (e ∷ es) k = elim (key_test e.0 k) [
 ]
 
 -- the first index of a key is where it is found
-pub first_there : (es : Entries) (k : Key) (i : ℕ) → i < length es → ((j : ℕ) → j < i → bytes_eq (key_at es j) k ≡ false) → bytes_eq (key_at es i) k ≡ true → buffered es k ≡ Some (mutation_in es i)
+pub first_there : (es : Entries) (k : Key) (i : ℕ) → i < length es
+    → ((j : ℕ) → j < i → bytes_eq (key_at es j) k ≡ false) → bytes_eq (key_at es i) k ≡ true
+    → buffered es k ≡ Some (mutation_in es i)
 first_there [] k i lt below here = absurd (omega arith)
 first_there (e ∷ es) k zero lt below here = rw here refl
-first_there (e ∷ es) k (suc i) lt below here = rw (below 0 (omega arith)) (first_there es k i (omega arith) (λ j l. below (suc j) (omega arith)) here)
+first_there (e ∷ es) k (suc i) lt below here =
+    rw (below 0 (omega arith)) (first_there es k i (omega arith) (λ j l. below (suc j) (omega arith)) here)
 
-pub nowhere : (es : Entries) (k : Key) → ((j : ℕ) → j < length es → bytes_eq (key_at es j) k ≡ false) → buffered es k ≡ None
+pub nowhere : (es : Entries) (k : Key) → ((j : ℕ) → j < length es → bytes_eq (key_at es j) k ≡ false)
+    → buffered es k ≡ None
 nowhere [] k below = refl
 nowhere (e ∷ es) k below = rw (below 0 (omega arith)) (nowhere es k (λ j l. below (suc j) (omega arith)))

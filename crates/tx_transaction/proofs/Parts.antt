@@ -13,12 +13,14 @@ use Rattle.tx_transaction.proofs.Entries.{distinct_touched, changes_with}
 use Rattle.tx_transaction.proofs.Finding.{turned}
 
 -- the entry of an index
-pub key_of_item : (few : Entries) (i : ℕ) (v : Key × BufferEntry) → i < length few → v ≡ slice_index_or few i v → v.0 ≡ key_at few i
+pub key_of_item : (few : Entries) (i : ℕ) (v : Key × BufferEntry) → i < length few → v ≡ slice_index_or few i v
+    → v.0 ≡ key_at few i
 key_of_item [] i v lt is = absurd (omega (arith, lt))
 key_of_item (e ∷ es) zero v lt is = ap (λ (w : Key × BufferEntry). w.0) is
 key_of_item (e ∷ es) (suc i) v lt is = key_of_item es i v (omega (arith, lt)) is
 
-mutation_of_item : (few : Entries) (i : ℕ) (v : Key × BufferEntry) → i < length few → v ≡ slice_index_or few i v → v.1.mutation ≡ mutation_in few i
+mutation_of_item : (few : Entries) (i : ℕ) (v : Key × BufferEntry) → i < length few → v ≡ slice_index_or few i v
+    → v.1.mutation ≡ mutation_in few i
 mutation_of_item [] i v lt is = absurd (omega (arith, lt))
 mutation_of_item (e ∷ es) zero v lt is = ap (λ (w : Key × BufferEntry). w.1.mutation) is
 mutation_of_item (e ∷ es) (suc i) v lt is = mutation_of_item es i v (omega (arith, lt)) is
@@ -27,7 +29,8 @@ mutation_of_item (e ∷ es) (suc i) v lt is = mutation_of_item es i v (omega (ar
 
 -- it stands first at this index, or nowhere
 abbrev pub IsFound : Entries → Key → ℕ → Type 0
-IsFound few k i = (i < length few) × (bytes_eq (key_at few i) k ≡ true) × ((j : ℕ) → j < i → bytes_eq (key_at few j) k ≡ false)
+IsFound few k i = (i < length few) × (bytes_eq (key_at few i) k ≡ true)
+    × ((j : ℕ) → j < i → bytes_eq (key_at few j) k ≡ false)
 
 abbrev pub IsAbsent : Entries → Key → Type 0
 IsAbsent few k = (j : ℕ) → j < length few → bytes_eq (key_at few j) k ≡ false
@@ -38,23 +41,29 @@ found_at few gs k q i e f is = subst (λ (x : Entries × Key). IsFound x.0 x.1 i
 pub absent_at : (few gs : Entries) (k q : Key) → few ≡ gs → k ≡ q → IsAbsent few k → IsAbsent gs q
 absent_at few gs k q e f is = subst (λ (x : Entries × Key). IsAbsent x.0 x.1) (λ t. (e t, f t)) is
 
-found_few : (few more : Entries) (k : Key) (i : ℕ) → i < length few → ((j : ℕ) → j < i → bytes_eq (key_at few j) k ≡ false)
+found_few : (few more : Entries) (k : Key) (i : ℕ) → i < length few
+    → ((j : ℕ) → j < i → bytes_eq (key_at few j) k ≡ false)
     → bytes_eq (key_at few i) k ≡ true → buffered (few ++ more) k ≡ Some (mutation_in few i)
 found_few [] more k i lt below here = absurd (omega (arith, lt))
 found_few (e ∷ es) more k zero lt below here = rw here refl
 found_few (e ∷ es) more k (suc i) lt below here =
-    rw (below 0 (omega arith)) (found_few es more k i (omega (arith, lt)) (λ j l. below (suc j) (omega (arith, l))) here)
+    rw (below 0 (omega arith))
+    (found_few es more k i (omega (arith, lt)) (λ j l. below (suc j) (omega (arith, l))) here)
 
-pub find_few : (few more es : Entries) (k : Key) (i : ℕ) (v : Key × BufferEntry) → IsFound few k i → v ≡ slice_index_or few i v
+pub find_few : (few more es : Entries) (k : Key) (i : ℕ) (v : Key × BufferEntry) → IsFound few k i
+    → v ≡ slice_index_or few i v
     → few ++ more ≡ es → Some v.1.mutation ≡ buffered es k
 find_few few more es k i v found is e =
-    ap (λ m. Some m) (mutation_of_item few i v found.0 is) ∙ sym (found_few few more k i found.0 found.2 found.1) ∙ ap (λ l. buffered l k) e
+    ap (λ m. Some m) (mutation_of_item few i v found.0 is) ∙ sym (found_few few more k i found.0 found.2 found.1)
+    ∙ ap (λ l. buffered l k) e
 
 absent_few : (few more : Entries) (k : Key) → IsAbsent few k → buffered more k ≡ buffered (few ++ more) k
 absent_few [] more k none = refl
-absent_few (e ∷ es) more k none = rw (none 0 (omega arith)) (absent_few es more k (λ j l. none (suc j) (omega (arith, l))))
+absent_few (e ∷ es) more k none =
+    rw (none 0 (omega arith)) (absent_few es more k (λ j l. none (suc j) (omega (arith, l))))
 
-pub find_behind : (few more es : Entries) (k : Key) → IsAbsent few k → few ++ more ≡ es → buffered more k ≡ buffered es k
+pub find_behind : (few more es : Entries) (k : Key) → IsAbsent few k → few ++ more ≡ es
+    → buffered more k ≡ buffered es k
 find_behind few more es k none e = absent_few few more k none ∙ ap (λ l. buffered l k) e
 
 pub nothing_there : (more : Entries) (k : Key) → length more ≡ 0 → None ≡ buffered more k
@@ -63,7 +72,8 @@ nothing_there (x ∷ xs) k e = absurd (omega (arith, e))
 
 -- ---- a key is touched
 
-touch_at : (few more : Entries) (k : Key) (m : Mutation) (i : ℕ) (v : Key × BufferEntry) → i < length few → v ≡ slice_index_or few i v
+touch_at : (few more : Entries) (k : Key) (m : Mutation) (i : ℕ) (v : Key × BufferEntry) → i < length few
+    → v ≡ slice_index_or few i v
     → ((j : ℕ) → j < i → bytes_eq (key_at few j) k ≡ false) → bytes_eq (key_at few i) k ≡ true
     → slice_set few i (v.0, fresh m) ++ more ≡ touched (few ++ more) k m
 touch_at [] more k m i v lt is below here = absurd (omega (arith, lt))
@@ -71,9 +81,11 @@ touch_at (e ∷ es) more k m zero v lt is below here =
     rw (sym (turned e.0 k) ∙ here) (ap (λ (w : Key × BufferEntry). (w.0, fresh m) ∷ (es ++ more)) is)
 touch_at (e ∷ es) more k m (suc i) v lt is below here =
     rw (sym (turned e.0 k) ∙ below 0 (omega arith))
-    (ap (λ (l : Entries). e ∷ l) (touch_at es more k m i v (omega (arith, lt)) is (λ j l. below (suc j) (omega (arith, l))) here))
+    (ap (λ (l : Entries). e ∷ l)
+    (touch_at es more k m i v (omega (arith, lt)) is (λ j l. below (suc j) (omega (arith, l))) here))
 
-pub touched_few : (few more : Entries) (k : Key) (m : Mutation) (i : ℕ) (v : Key × BufferEntry) → IsFound few k i → v ≡ slice_index_or few i v
+pub touched_few : (few more : Entries) (k : Key) (m : Mutation) (i : ℕ) (v : Key × BufferEntry) → IsFound few k i
+    → v ≡ slice_index_or few i v
     → slice_set few i (v.0, fresh m) ++ more ≡ touched (few ++ more) k m
 touched_few few more k m i v found is = touch_at few more k m i v found.0 is found.2 found.1
 
@@ -94,28 +106,38 @@ touched_behind (e ∷ es) more k m none =
 
 -- ---- progress
 
-pub progress_few : (few more : Entries) (i : ℕ) (v : Key × BufferEntry) (p : Progress) → i < length few → v ≡ slice_index_or few i v
+pub progress_few : (few more : Entries) (i : ℕ) (v : Key × BufferEntry) (p : Progress) → i < length few
+    → v ≡ slice_index_or few i v
     → slice_set few i (v.0, record { mutation = v.1.mutation; progress = p }) ++ more ≡ with_progress (few ++ more) i p
 progress_few [] more i v p lt is = absurd (omega (arith, lt))
 progress_few (e ∷ es) more zero v p lt is =
     ap (λ (w : Key × BufferEntry). (w.0, record { mutation = w.1.mutation; progress = p }) ∷ (es ++ more)) is
-progress_few (e ∷ es) more (suc i) v p lt is = ap (λ (l : Entries). e ∷ l) (progress_few es more i v p (omega (arith, lt)) is)
+progress_few (e ∷ es) more (suc i) v p lt is =
+    ap (λ (l : Entries). e ∷ l) (progress_few es more i v p (omega (arith, lt)) is)
 
 progress_behind : (few more : Entries) (i j : ℕ) (p : Progress) → i ≡ length few + j
     → few ++ with_progress more j p ≡ with_progress (few ++ more) i p
 progress_behind [] more i j p is = (let same : j ≡ i = omega (arith, is) in ap (λ n. with_progress more n p) same)
 progress_behind (e ∷ es) more zero j p is = absurd (omega (arith, is))
-progress_behind (e ∷ es) more (suc i) j p is = ap (λ (l : Entries). e ∷ l) (progress_behind es more i j p (omega (arith, is)))
+progress_behind (e ∷ es) more (suc i) j p is =
+    ap (λ (l : Entries). e ∷ l) (progress_behind es more i j p (omega (arith, is)))
 
-noted : (es : Entries) (i : ℕ) (v : BufferEntry) (p : Progress) → Some v ≡ slice_get (values_of es) i → set_value_at es i (record { mutation = v.mutation; progress = p }) ≡ with_progress es i p
+noted : (es : Entries) (i : ℕ) (v : BufferEntry) (p : Progress)
+    → Some v ≡ slice_get (values_of es) i
+    → set_value_at es i (record { mutation = v.mutation; progress = p }) ≡ with_progress es i p
 noted [] i v p e = refl
-noted (x ∷ es) zero v p e = let same : v ≡ x.1 = cc (e) in ap (λ (w : BufferEntry). (x.0, record { mutation = w.mutation; progress = p }) ∷ es) same
+noted (x ∷ es) zero v p e =
+    let same : v ≡ x.1 = cc (e) in ap (λ (w : BufferEntry). (x.0, record { mutation = w.mutation; progress = p }) ∷ es)
+    same
 noted (x ∷ es) (suc i) v p e = ap (λ (l : Entries). x ∷ l) (noted es i v p e)
 
-pub progress_more : (few more : Entries) (i n : ℕ) (v : BufferEntry) (p : Progress) → n ≡ length few → n ≤ i → Some v ≡ slice_get (values_of more) (i - n)
-    → few ++ set_value_at more (i - n) (record { mutation = v.mutation; progress = p }) ≡ with_progress (few ++ more) i p
+pub progress_more : (few more : Entries) (i n : ℕ) (v : BufferEntry) (p : Progress) → n ≡ length few → n ≤ i
+    → Some v ≡ slice_get (values_of more) (i - n)
+    → few ++ set_value_at more (i - n) (record { mutation = v.mutation; progress = p }) ≡ with_progress
+    (few ++ more) i p
 progress_more few more i n v p e le is =
-    ap (λ (l : Entries). few ++ l) (noted more (i - n) v p is) ∙ progress_behind few more i (i - n) p (omega (arith, e, le))
+    ap (λ (l : Entries). few ++ l) (noted more (i - n) v p is)
+    ∙ progress_behind few more i (i - n) p (omega (arith, e, le))
 
 -- ---- what the two parts keep
 
@@ -129,17 +151,21 @@ length_set [] i x = refl
 length_set (e ∷ es) zero x = refl
 length_set (e ∷ es) (suc i) x = (let rest = length_set es i x in omega (arith, rest))
 
-pub room_set : (n : ℕ) (few more : Entries) (i : ℕ) (x : Key × BufferEntry) → (more ≡ []) ⊎ (n ≤ length few) → (more ≡ []) ⊎ (n ≤ length (slice_set few i x))
+pub room_set : (n : ℕ) (few more : Entries) (i : ℕ) (x : Key × BufferEntry) → (more ≡ []) ⊎ (n ≤ length few)
+    → (more ≡ []) ⊎ (n ≤ length (slice_set few i x))
 room_set n few more i x (inl e) = inl e
 room_set n few more i x (inr le) = inr (omega (arith, le, length_set few i x))
 
-pub room_value : (n : ℕ) (few more : Entries) (i : ℕ) (v : BufferEntry) → (more ≡ []) ⊎ (n ≤ length few) → (set_value_at more i v ≡ []) ⊎ (n ≤ length few)
+pub room_value : (n : ℕ) (few more : Entries) (i : ℕ) (v : BufferEntry) → (more ≡ []) ⊎ (n ≤ length few)
+    → (set_value_at more i v ≡ []) ⊎ (n ≤ length few)
 room_value n few more i v (inl e) = inl (ap (λ (l : Entries). set_value_at l i v) e)
 room_value n few more i v (inr le) = inr le
 
 -- each key stands once, and so it is after one was touched, or as far as another
-pub distinct_by : (es fs : Entries) (k : Key) (m : Mutation) → IsDistinct (changes_of es) → fs ≡ touched es k m → IsDistinct (changes_of fs)
+pub distinct_by : (es fs : Entries) (k : Key) (m : Mutation) → IsDistinct (changes_of es) → fs ≡ touched es k m
+    → IsDistinct (changes_of fs)
 distinct_by es fs k m d is = subst (λ (x : Entries). IsDistinct (changes_of x)) (sym is) (distinct_touched es k m d)
 
-pub distinct_still : (es fs : Entries) (i : ℕ) (p : Progress) → IsDistinct (changes_of es) → fs ≡ with_progress es i p → IsDistinct (changes_of fs)
+pub distinct_still : (es fs : Entries) (i : ℕ) (p : Progress) → IsDistinct (changes_of es) → fs ≡ with_progress es i p
+    → IsDistinct (changes_of fs)
 distinct_still es fs i p d is = subst IsDistinct (sym (ap changes_of is ∙ changes_with es i p)) d

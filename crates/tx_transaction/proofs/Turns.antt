@@ -18,7 +18,7 @@ use Rattle.tx_transaction.specs.declared.state.Response.{Response}
 use Rattle.tx_transaction.specs.declared.state.Response.TheVariants as response
 use Rattle.tx_transaction.specs.Buffers.{key_at, not_empty, first_index, promised}
 use Rattle.tx_transaction.specs.Sessions.{SessionState, marked, first_settled, committed_by, after_answer, after_response, after_read, with_passed, finish_by, finish_of, outcome_of, has_primary, prewrite_of, prewrite_at, due_prewrite, commit_of, commit_at, commit_drawn, commit_by, commit_if, due_commit, rollback_of, check_of, check_at, abort_of, abort_open, abort_by, due_abort}
-use Rattle.tx_transaction.specs.Turns.{SessionTurn, Enters, Declares, Draws, Hears, Reads, Passes, after_turn, after_turns, DecidesByPrimary, MayRollBack}
+use Rattle.tx_transaction.specs.Turns.{SessionTurn, Enters, Declares, Draws, Hears, HearsRead, Passes, after_turn, after_turns, DecidesByPrimary, MayRollBack}
 
 -- ---- what is known stays
 
@@ -27,7 +27,8 @@ module _ (end : Fate) where
   Knows s = s.decision ≡ Some end
 
   stays_heard : (s : SessionState) (x : Phase) (i : ℕ) (a : Answer) → Knows s → Knows (after_answer s x i a)
-  stays_heard s x i a known = ap (λ o. first_settled (first_settled o (fate_in a)) (committed_by (promised (marked s x i a)))) known
+  stays_heard s x i a known =
+      ap (λ o. first_settled (first_settled o (fate_in a)) (committed_by (promised (marked s x i a)))) known
 
   stays_response : (s : SessionState) (x : Phase) (i : ℕ) (c : Response) → Knows s → Knows (after_response s x i c)
   stays_response s x i response.Lost known = known
@@ -48,17 +49,19 @@ module _ (end : Fate) where
   stays_next s (Declares terms placed) known = known
   stays_next s (Draws commit) known = known
   stays_next s (Hears x i c) known = stays_response s x i c known
-  stays_next s (Reads c) known = stays_read s c known
+  stays_next s (HearsRead c) known = stays_read s c known
   stays_next s (Passes t may) known = stays_passed s t may known
 
   stays : (s : SessionState) (turns : List SessionTurn) → Knows s → Knows (after_turns s turns)
   stays s [] known = known
   stays s (turn ∷ turns) known = stays (after_turn s turn) turns (stays_next s turn known)
 
-pub stays_known : (s : SessionState) (turns : List SessionTurn) (end : Fate) → s.decision ≡ Some end → (after_turns s turns).decision ≡ Some end
+pub stays_known : (s : SessionState) (turns : List SessionTurn) (end : Fate) → s.decision ≡ Some end
+    → (after_turns s turns).decision ≡ Some end
 stays_known s turns end known = stays end s turns known
 
-pub stays_answered : (s : SessionState) (turns : List SessionTurn) (end : Fate) → s.decision ≡ Some end → finish_of (after_turns s turns) ≡ Some (outcome_of end)
+pub stays_answered : (s : SessionState) (turns : List SessionTurn) (end : Fate) → s.decision ≡ Some end
+    → finish_of (after_turns s turns) ≡ Some (outcome_of end)
 stays_answered s turns end known = ap (finish_by (after_turns s turns)) (stays_known s turns end known)
 
 -- ---- rollbacks
@@ -109,13 +112,16 @@ module _ (s : SessionState) (due : Due) (b : BatchRollback) (asks : due.body ≡
   no_check_at None is = cc (is)
   no_check_at (Some i) is = another (check_of s i) refl is
 
-  by_mode : (terms : Terms) (mode : Mode) → s.declared ≡ Some terms → terms.mode ≡ mode → s.decision ≡ None → abort_of s mode ≡ Some due → DecidesByPrimary s b
+  by_mode : (terms : Terms) (mode : Mode)
+      → s.declared ≡ Some terms → terms.mode ≡ mode → s.decision ≡ None → abort_of s mode ≡ Some due
+      → DecidesByPrimary s b
   by_mode terms TwoPhase declared in_mode unknown is =
       let same : Some (key_at s.buffer 0) ≡ Some b.key = ap key_in (body_same (rollback_of s 0) due is ∙ asks) in
       record { terms = terms; declared = declared; two_phase = in_mode; unknown = unknown; primary = sym (cc (same)) }
   by_mode terms Async declared in_mode unknown is = absurd (no_check_at (first_index phase.Prewrite s.buffer) is)
 
-  by_open : (o : Option Terms) (some : Bool) → s.declared ≡ o → s.decision ≡ None → abort_open s o some ≡ Some due → DecidesByPrimary s b
+  by_open : (o : Option Terms) (some : Bool) → s.declared ≡ o → s.decision ≡ None → abort_open s o some ≡ Some due
+      → DecidesByPrimary s b
   by_open None some declared unknown is = absurd (cc (is))
   by_open (Some terms) false declared unknown is = absurd (cc (is))
   by_open (Some terms) true declared unknown is = by_mode terms terms.mode declared refl unknown is
@@ -125,11 +131,14 @@ module _ (s : SessionState) (due : Due) (b : BatchRollback) (asks : due.body ≡
   by_decision (Some (fate.Committed c)) known is = absurd (cc (is))
   by_decision (Some fate.Aborted) known is = inl known
 
-pub abort_rolls_back : (s : SessionState) (due : Due) (b : BatchRollback) → due_abort s ≡ Some due → due.body ≡ request.BatchRollback b → MayRollBack s b
+pub abort_rolls_back : (s : SessionState) (due : Due) (b : BatchRollback) → due_abort s ≡ Some due
+    → due.body ≡ request.BatchRollback b → MayRollBack s b
 abort_rolls_back s due b is asks = by_decision s due b asks s.decision refl is
 
-pub no_prewrite_rolls_back : (s : SessionState) (due : Due) (b : BatchRollback) → due_prewrite s ≡ Some due → due.body ≡ request.BatchRollback b → ⊥
+pub no_prewrite_rolls_back : (s : SessionState) (due : Due) (b : BatchRollback) → due_prewrite s ≡ Some due
+    → due.body ≡ request.BatchRollback b → ⊥
 no_prewrite_rolls_back s due b is asks = no_prewrite s due b asks s.declared (first_index phase.Prewrite s.buffer) is
 
-pub no_commit_rolls_back : (s : SessionState) (due : Due) (b : BatchRollback) → due_commit s ≡ Some due → due.body ≡ request.BatchRollback b → ⊥
+pub no_commit_rolls_back : (s : SessionState) (due : Due) (b : BatchRollback) → due_commit s ≡ Some due
+    → due.body ≡ request.BatchRollback b → ⊥
 no_commit_rolls_back s due b is asks = no_commit_if s due b asks (has_primary s) is

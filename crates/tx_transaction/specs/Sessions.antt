@@ -26,6 +26,8 @@ use Rattle.tx_transaction.specs.declared.state.Phase.{Phase}
 use Rattle.tx_transaction.specs.declared.state.Phase.TheVariants as phase
 use Rattle.tx_transaction.specs.declared.state.Progress.{Progress}
 use Rattle.tx_transaction.specs.declared.state.Due.{Due}
+use Rattle.tx_transaction.specs.declared.state.KeyRequest.{KeyRequest}
+use Rattle.tx_transaction.specs.declared.state.KeyRequest.TheVariants as key_request
 use Rattle.tx_transaction.specs.declared.state.Response.{Response}
 use Rattle.tx_transaction.specs.declared.state.Response.TheVariants as response
 use Rattle.tx_transaction.specs.Buffers.{Entries, changes_of, keys_of, not_empty, key_at, mutation_in, progress_at, with_progress, first_index, has_two_phase_lock, promised}
@@ -185,6 +187,12 @@ rollback_at s (Some i) = Some (rollback_of s i)
 abbrev pub check_at : SessionState → Option ℕ → Option Due
 check_at s None = None
 check_at s (Some i) = Some (check_of s i)
+
+-- what is asked of the key at an index, if there is one
+abbrev pub keyed_at : SessionState → KeyRequest → Option ℕ → Option Due
+keyed_at s (key_request.Commit c) i = commit_at s c i
+keyed_at s key_request.Rollback i = rollback_at s i
+keyed_at s key_request.Check i = check_at s i
 
 -- a session that knows of no decision asks for one: a two-phase one rolls back its primary, an
 -- async one has the first key that has no accepted lock checked, which may be locked all the same

@@ -17,7 +17,7 @@ pub data SessionTurn : Type 0 where
   Declares : (terms : Terms) (placed : ℕ) → SessionTurn
   Draws : (commit : ℕ) → SessionTurn
   Hears : (phase : Phase) (index : ℕ) (response : Response) → SessionTurn
-  Reads : (response : Response) → SessionTurn
+  HearsRead : (response : Response) → SessionTurn
   Passes : (start : ℕ) (may : Bool) → SessionTurn
 
 -- the state after it
@@ -26,7 +26,7 @@ after_turn s (Enters buffer) = record s { buffer = buffer }
 after_turn s (Declares terms placed) = record s { declared = Some terms; placed = placed }
 after_turn s (Draws commit) = record s { drawn = Some commit }
 after_turn s (Hears phase index response) = after_response s phase index response
-after_turn s (Reads response) = after_read s response
+after_turn s (HearsRead response) = after_read s response
 after_turn s (Passes start may) = with_passed s start may
 
 -- the state after these, one after the other

@@ -66,3 +66,14 @@ pub struct Due {
     pub index: usize,
     pub body: Body,
 }
+
+/// What is asked of a key once its prewrite went out.
+#[derive(Clone, Copy, Debug, PartialEq, Eq)]
+pub(crate) enum KeyRequest {
+    /// Its commit at this timestamp.
+    Commit(Ts),
+    /// Its rollback.
+    Rollback,
+    /// Whether its prewrite left a lock.
+    Check,
+}

@@ -5,10 +5,10 @@ ghost use Rattle.tx_transaction.specs.Sessions.{begun, is_declared, has_primary,
 ghost use Rattle.tx_transaction.specs.declared.state.Miss.TheVariants as miss;
 ghost use Rattle.tx_transaction.specs.Returns.{IsBuffered};
 
-mod answering;
 mod fate;
 mod next;
 mod requests;
+mod responses;
 
 use crate::buffer::{
     Buffer, can_insert, changes_in, find, has_keys, has_room, insert_over, is_full, is_known,

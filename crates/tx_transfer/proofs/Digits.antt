@@ -31,10 +31,13 @@ in_range : (c : ℕ) → is_ascii_digit c ≡ true → (48 ≤ c) × (c ≤ 57)
 in_range c e = grind (arith, common_steps)
 
 -- a digit of a text of digits
-pub digit_at : (text : List ℕ) (i : ℕ) → list_all is_ascii_digit text ≡ true → i < length text → (48 ≤ get_or text i 0) × (get_or text i 0 ≤ 57)
+pub digit_at : (text : List ℕ) (i : ℕ) → list_all is_ascii_digit text ≡ true → i < length text
+    → (48 ≤ get_or text i 0) × (get_or text i 0 ≤ 57)
 digit_at text i all lt = in_range (get_or text i 0) (AllPass-from_list_all is_ascii_digit text all i 0 lt)
 
-pub reads_more : (text : List ℕ) (i number : ℕ) → list_all is_ascii_digit text ≡ true → i < length text → ReadsUpTo text i number → ReadsUpTo text (i + 1) (number * 10 + (get_or text i 0 - 48))
+pub reads_more : (text : List ℕ) (i number : ℕ)
+    → list_all is_ascii_digit text ≡ true → i < length text → ReadsUpTo text i number
+    → ReadsUpTo text (i + 1) (number * 10 + (get_or text i 0 - 48))
 reads_more text i number all lt so =
     let d = digit_at text i all lt in
     let v : digit_value (get_or text i 0) + 48 ≡ get_or text i 0 = digit_value_digit (get_or text i 0) d in
@@ -46,12 +49,14 @@ reads_more text i number all lt so =
     }
 
 -- fewer than 15 digits say less than 10^14
-pub reads_less : (text : List ℕ) (i number : ℕ) → i < length text → length text ≤ 15 → ReadsUpTo text i number → number < 100000000000000
+pub reads_less : (text : List ℕ) (i number : ℕ) → i < length text → length text ≤ 15 → ReadsUpTo text i number
+    → number < 100000000000000
 reads_less text i number lt few so =
     let short : length (take i text) ≤ 14 = omega (arith, length-take-le i text (omega arith)) in
     rw so.value (digits_value_short (numerals_by_value (AllDigits 10) tells_digits) (take i text) 14 so.digits short)
 
-pub reads_all : (text : List ℕ) (i number : ℕ) → length text ≤ i → ReadsUpTo text i number → number ≡ digits_value 10 text
+pub reads_all : (text : List ℕ) (i number : ℕ) → length text ≤ i → ReadsUpTo text i number
+    → number ≡ digits_value 10 text
 reads_all text i number end so = so.value ∙ ap (λ l. digits_value 10 l) (take_all i text end)
 
 and_left : (a b : Bool) → (a && b) ≡ true → a ≡ true
@@ -66,7 +71,9 @@ pub all_of : (text : List ℕ) → is_balance text ≡ true → list_all is_asci
 all_of text is = and_right (nat_lt 0 (length text) && nat_le (length text) 15) (list_all is_ascii_digit text) is
 
 pub few_of : (text : List ℕ) → is_balance text ≡ true → length text ≤ 15
-few_of text is = leb-true (length text) 15 (and_right (nat_lt 0 (length text)) (nat_le (length text) 15) (and_left (nat_lt 0 (length text) && nat_le (length text) 15) (list_all is_ascii_digit text) is))
+few_of text is = leb-true (length text) 15 (and_right (nat_lt 0 (length text))
+    (nat_le (length text) 15)
+    (and_left (nat_lt 0 (length text) && nat_le (length text) 15) (list_all is_ascii_digit text) is))
 
 pub balance_less : (text : List ℕ) → is_balance text ≡ true → digits_value 10 text < 1000000000000000
 balance_less text is = digits_value_short own text 15 (all_of text is) (few_of text is)
@@ -76,5 +83,6 @@ pub decimal_says : (n : ℕ) → n < 1000000000000000 → balance_of (decimal n)
 decimal_says n small =
     let fits : n < 2 ^ 64 = omega arith in
     let some : nat_lt 0 (length (decimal n)) ≡ true = lt-ltb 0 (length (decimal n)) (decimal_nonempty n fits) in
-    let few : nat_le (length (decimal n)) 15 ≡ true = le-leb (length (decimal n)) 15 (length-decimal-le 15 n (omega arith) small fits) in
+    let few : nat_le (length (decimal n)) 15 ≡ true =
+    le-leb (length (decimal n)) 15 (length-decimal-le 15 n (omega arith) small fits) in
     rw (some, few, digits_decimal own n fits) (digits_value-decimal own n fits)

@@ -1,9 +1,9 @@
 -- Why a transfer moves between its two keys alone.
-pub mod Calling
 pub mod Collecting
 pub mod Digits
-pub mod Paging
+pub mod Operating
 pub mod Resolving
+pub mod Seeding
 pub mod Sending
 pub mod Starting
 pub mod Telling

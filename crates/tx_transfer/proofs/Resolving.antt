@@ -9,7 +9,7 @@ use Rattle.tx_store.specs.Stores.{Replies}
 use Rattle.tx_client.specs.declared.resolved.Status.{Status}
 use Rattle.tx_client.specs.Calls.{HasHeard}
 use Rattle.tx_client.specs.Walks.{Sends}
-use Rattle.tx_resolve.specs.Reading.{read_walk}
+use Rattle.tx_resolve.specs.BlockedReads.{read_walk}
 use Rattle.tx_transfer.specs.Resolving.{HasLooked, Resolves}
 use Rattle.tx_transfer.specs.Sending.{SendsOver}
 use Rattle.tx_transfer.proofs.Sending.{sent_over}

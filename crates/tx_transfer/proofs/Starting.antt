@@ -72,7 +72,8 @@ module _ (at : ℕ) where
       )
       by false e = rw e (keeps t rows is, is)
 
-  start_scan : (from to : Key) (limit : ℕ) (low : Key) (bounds : List Key) → KeepsAt at (scan_from from to limit low bounds)
+  start_scan : (from to : Key) (limit : ℕ) (low : Key) (bounds : List Key)
+      → KeepsAt at (scan_from from to limit low bounds)
   start_scan from to limit low [] t rows is =
       start_part t (greater from low) to limit rows (λ u all. ends (u, Ok (Rows all))) (λ u all keeps. keeps) is
   start_scan from to limit low (bound ∷ bounds) t rows is =

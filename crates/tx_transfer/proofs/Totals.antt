@@ -21,22 +21,22 @@ use Rattle.tx_core.proofs.runs.CommitOrder.{answered_before, decided_below}
 use Rattle.tx_core.proofs.seats.Beginnings.{begins_all, begins_more, extends_begins}
 use Rattle.tx_core.proofs.seats.Staying.{among_on}
 use Rattle.tx_journal.specs.Known.{Known}
+use Rattle.tx_journal.specs.Replies.{Asked}
 use Rattle.tx_journal.specs.Senders.{Reached, IsSender}
-use Rattle.tx_store.specs.Stores.{Replies, TakesHeld}
 use Rattle.tx_transaction.specs.Sessions.{SessionState}
 use Rattle.tx_transaction.specs.declared.state.Miss.{Miss}
 use Rattle.tx_client.specs.declared.resolved.Status.{Status}
 use Rattle.tx_client.specs.Statuses.{lies_above}
 use Rattle.tx_client.specs.Calls.{Seated, BeganAt, Records}
 use Rattle.tx_client.specs.Learns.{Learns, response_of}
-use Rattle.tx_client.specs.Walks.{Walk, asks, grows, ends, scan_walk}
+use Rattle.tx_client.specs.Walks.{Walk, asks, grows, ends, Sends, scan_walk}
 use Rattle.tx_laws.specs.Scans.{scan_at}
 use Rattle.tx_laws.proofs.Scanned.{sees_whole}
 use Rattle.tx_transfer.specs.Balances.{balance_of}
 use Rattle.tx_transfer.specs.Resolving.{ResolvesMet}
-use Rattle.tx_transfer.specs.Sending.{SendsOver}
-use Rattle.tx_transfer.specs.Totals.{least, top, AreRowsOf, balances_of, IsSumOf, SumsTo, IsTotal, HasReadTo, ReadsOn, IsPage, AddsPage}
-use Rattle.tx_transfer.proofs.Paging.{le_trans, between_both, none_there, short_page, last_within, front_of_page, joined}
+use Rattle.tx_laws.specs.Rows.{AreRowsOf}
+use Rattle.tx_transfer.specs.Totals.{least, top, balances_of, IsSumOf, SumsTo, IsTotal, HasReadTo, ReadsOn, IsPage, IsPageOf, AddsPage}
+use Rattle.tx_laws.proofs.Paging.{le_trans, between_both, none_there, short_page, last_within, front_of_page, joined}
 use Rattle.tx_transfer.proofs.Starting.{scan_start, passed_start}
 
 -- ---- what a seat knows
@@ -47,49 +47,59 @@ learns_begins bounds old new (Err l) learns =
     subst (λ (k : Known). Begins old.events k.events) (sym learns) (begins_all old.events)
 learns_begins bounds old new (Ok g) learns = extends_begins old.seat old.events new.events learns.2.extends
 
--- a seat that sent requests has seen more
-pub sent_begins : {R : Type 0} (bounds : List Key) (w : Walk R) (old new : Known) (r : R) → SendsOver bounds old w r new
-    → Begins old.events new.events
-sent_begins bounds (ends r) old new result (is, there, knows) =
-    subst (λ (k : Known). Begins old.events k.events) (sym knows) (begins_all old.events)
-sent_begins bounds (grows more short) old new result (inl s) = sent_begins bounds short old new result s
-sent_begins bounds (grows more short) old new result (inr s) = sent_begins bounds more old new result s
-sent_begins bounds (asks body more) old new result (reached, mid, then, sent, learns, rest) =
-    begins_more old.events then.events new.events (learns_begins bounds old then reached learns)
-    (sent_begins bounds (more (response_of reached)) then new result rest)
+module _ {S : Type 0} (sends : S → Asked → Reached → S → Type 0) (bounds : List Key) where
+  -- a seat that sent requests has seen more
+  sent_begins : {R : Type 0} (w : Walk R) (old new : Known) (a b : S) (r : R) → Sends sends bounds old a w r b new
+      → Begins old.events new.events
+  sent_begins (ends r) old new a b result (is, there, knows) =
+      subst (λ (k : Known). Begins old.events k.events) (sym knows) (begins_all old.events)
+  sent_begins (grows more short) old new a b result (inl s) = sent_begins short old new a b result s
+  sent_begins (grows more short) old new a b result (inr s) = sent_begins more old new a b result s
+  sent_begins (asks body more) old new a b result (reached, mid, then, sent, learns, rest) =
+      begins_more old.events then.events new.events (learns_begins bounds old then reached learns)
+      (sent_begins (more (response_of reached)) then new mid b result rest)
 
--- ---- a page
+  -- ---- a page
 
--- a way to the regions of a store
-replies_way : (bounds : List Key) → IsSender bounds (TakesHeld bounds) (Replies {S = Unit {0}}) (λ a. bounds)
-replies_way bounds = record { takes = λ a q held. held; answers = λ a b q g is. is; between = λ a. refl }
-
-module _ (bounds : List Key) (from to : Key) (old new : Seated) (r : Result Answer Miss)
-    (sent : SendsOver bounds old.seat (scan_walk old.state bounds from to MAX_SCAN_ROWS) (new.state, r) new.seat) where
-  pub page_start : new.state.start ≡ old.state.start
-  page_start = scan_start (Replies {S = Unit {0}}) bounds old.seat new.seat tt tt old.state from to MAX_SCAN_ROWS
-      (new.state, r) sent
-
-  pub page_knows : Begins old.seat.events new.seat.events
-  page_knows = sent_begins bounds (scan_walk old.state bounds from to MAX_SCAN_ROWS) old.seat new.seat (new.state, r) sent
-
-  pub page_is : to ≡ top → AreRising bounds → IsWorldRun bounds new.seat.events → (rows : List KeyValue)
-      → r ≡ Ok (answer.Rows rows) → IsPage bounds new.seat.events old.state.start from rows
-  page_is all rising run rows is = record {
-    few = (seen new.seat.events (begins_all new.seat.events) run).upto;
-    run = run;
-    sees = seen;
-  }
+  module _ (from to : Key) (old new : Seated) (a b : S) (r : Result Answer Miss)
+      (sent : Sends sends bounds old.seat a (scan_walk old.state bounds from to MAX_SCAN_ROWS) (new.state, r) b
+      new.seat)
     where
-      seen : (h : History) → Begins new.seat.events h → IsWorldRun bounds h
-          → SeesRows (table_of (shadow h)).row (scan_at old.state.start from top MAX_SCAN_ROWS rows)
-      seen h begins there = sees_whole bounds (TakesHeld bounds) (Replies {S = Unit {0}}) (λ a. bounds) rising
-          (replies_way bounds) old.seat new.seat tt tt old.state new.state from top MAX_SCAN_ROWS rows h
-          (subst (λ (x : Result Answer Miss).
-          SendsOver bounds old.seat (scan_walk old.state bounds from top MAX_SCAN_ROWS) (new.state, x) new.seat) is
-          (subst (λ (k : Key).
-          SendsOver bounds old.seat (scan_walk old.state bounds from k MAX_SCAN_ROWS) (new.state, r) new.seat) all sent))
-          begins there
+      pub page_start : new.state.start ≡ old.state.start
+      page_start = scan_start sends bounds old.seat new.seat a b old.state from to MAX_SCAN_ROWS (new.state, r) sent
+
+      pub page_knows : Begins old.seat.events new.seat.events
+      page_knows = sent_begins (scan_walk old.state bounds from to MAX_SCAN_ROWS) old.seat new.seat a b (new.state, r)
+          sent
+
+      page_is : (fits : S → Asked → Type 0) (keys_between : S → List Key) → IsSender bounds fits sends keys_between
+          → to ≡ top → AreRising bounds → IsWorldRun bounds new.seat.events → (rows : List KeyValue)
+          → r ≡ Ok (answer.Rows rows) → IsPage bounds new.seat.events old.state.start from rows
+      page_is fits keys_between way all rising run rows is = record {
+        few = (seen new.seat.events (begins_all new.seat.events) run).upto;
+        run = run;
+        sees = seen;
+      }
+        where
+          seen : (h : History) → Begins new.seat.events h → IsWorldRun bounds h
+              → SeesRows (table_of (shadow h)).row (scan_at old.state.start from top MAX_SCAN_ROWS rows)
+          seen h begins there = sees_whole bounds fits sends keys_between rising way old.seat new.seat a b old.state
+              new.state from top MAX_SCAN_ROWS rows h
+              (subst (λ (x : Result Answer Miss).
+              Sends sends bounds old.seat a (scan_walk old.state bounds from top MAX_SCAN_ROWS) (new.state, x) b
+              new.seat) is
+              (subst (λ (k : Key).
+              Sends sends bounds old.seat a (scan_walk old.state bounds from k MAX_SCAN_ROWS) (new.state, r) b
+              new.seat) all
+              sent)) begins there
+
+      pub page_of : (fits : S → Asked → Type 0) (keys_between : S → List Key) → IsSender bounds fits sends keys_between
+          → to ≡ top → AreRising bounds → IsWorldRun bounds new.seat.events → (came : Result Answer Miss) → r ≡ came
+          → IsPageOf bounds new.seat.events old.state.start from came
+      page_of fits keys_between way all rising run (Ok (answer.Rows rows)) is =
+          page_is fits keys_between way all rising run rows is
+      page_of fits keys_between way all rising run (Ok _) is = tt
+      page_of fits keys_between way all rising run (Err m) is = tt
 
 -- ---- a lock in the way
 

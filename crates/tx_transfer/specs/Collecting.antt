@@ -5,7 +5,7 @@ use Rattle.tx_types.specs.declared.fault.Fault.{Fault}
 use Rattle.tx_core.specs.Histories.{last}
 use Rattle.tx_journal.specs.Known.{Known}
 use Rattle.tx_resolve.specs.declared.collector.Counts.{Counts}
-use Rattle.tx_resolve.specs.Collecting.{gc_walk}
+use Rattle.tx_resolve.specs.Collection.{gc_walk}
 use Rattle.tx_transfer.specs.declared.collector.Collector.{Collector}
 use Rattle.tx_transfer.specs.Counting.{sum_of}
 use Rattle.tx_transfer.specs.Sending.{SendsOver}

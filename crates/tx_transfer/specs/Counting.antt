@@ -2,7 +2,7 @@
 use Rattle.std.specs.Prelude.{ℕ, ◌+◌, ◌-◌, ◌^◌, min, Option, Some, None, Result, Ok, Err}
 use Rattle.tx_plan.specs.declared.answer.Answer.{Answer}
 use Rattle.tx_plan.specs.declared.answer.Answer.TheVariants as answer
-use Rattle.tx_transaction.specs.declared.state.Miss.{Miss}
+use Rattle.tx_journal.specs.Senders.{Reached}
 use Rattle.tx_transfer.specs.declared.refusals.Refusals.{Refusals}
 
 -- a sum, as far as 64 bits hold it
@@ -33,13 +33,12 @@ with_answer r answer.AlreadyExists = record r { already_exists = sum_of r.alread
 with_answer r (answer.BelowSafePoint safe) = record r { below_safe_point = sum_of r.below_safe_point 1 }
 with_answer r _ = r
 
--- what a read was answered, if it was
-abbrev pub with_read : Refusals → Result Answer Miss → Refusals
-with_read r (Ok a) = with_answer r a
-with_read r (Err m) = r
+-- what a request was answered, if it was
+abbrev pub with_maybe : Refusals → Option Answer → Refusals
+with_maybe r (Some a) = with_answer r a
+with_maybe r None = r
 
--- what was answered of a change, if one was due
-abbrev pub with_sent : Refusals → Result (Option Answer) Miss → Refusals
-with_sent r (Ok (Some a)) = with_answer r a
-with_sent r (Ok None) = r
-with_sent r (Err m) = r
+-- what came of a request
+abbrev pub with_reached : Refusals → Reached → Refusals
+with_reached r (Ok g) = with_maybe r g.answer
+with_reached r (Err l) = r

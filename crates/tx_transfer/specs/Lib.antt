@@ -1,9 +1,9 @@
 pub mod Acts
 pub mod Balances
-pub mod Calls
 pub mod Collecting
 pub mod Counting
 pub mod PlainReplies
+pub mod Replies
 pub mod Resolving
 pub mod Seeds
 pub mod Sending

@@ -8,7 +8,7 @@ use Rattle.tx_transaction.specs.Sessions.{with_passed}
 use Rattle.tx_client.specs.declared.resolved.Status.{Status}
 use Rattle.tx_client.specs.Statuses.{lies_above}
 use Rattle.tx_client.specs.Calls.{Seated, HasHeard}
-use Rattle.tx_resolve.specs.Reading.{read_walk}
+use Rattle.tx_resolve.specs.BlockedReads.{read_walk}
 use Rattle.tx_transfer.specs.Sending.{SendsOver}
 
 -- a seat has looked at what happened so far, and made no event

@@ -1,17 +1,20 @@
 -- What the sum of all balances is of.
-use Rattle.std.specs.Prelude.{◌≡◌, ◌≤◌, ◌<◌, ◌+◌, ℕ, [], ◌∷◌, ◌++◌, List, length, Bool, Option, Some, None, IsTrue}
+use Rattle.std.specs.Prelude.{◌≡◌, ◌≤◌, ◌<◌, ◌+◌, ℕ, [], ◌∷◌, ◌++◌, List, length, Option, Some, None, IsTrue, Result, Ok}
 use Rattle.std.specs.List.{sum_by}
 use Rattle.tx_types.specs.declared.key.Key.{Key}
-use Rattle.tx_types.specs.declared.value.Value.{Value}
 use Rattle.tx_types.specs.declared.mutation.KeyValue.{KeyValue}
 use Rattle.tx_types.specs.declared.limits.TheConstants.{MAX_SCAN_ROWS}
-use Rattle.tx_types.specs.Keys.{key_le, is_between, IsRising, value_in}
+use Rattle.tx_types.specs.Keys.{key_le, is_between}
+use Rattle.tx_plan.specs.declared.answer.Answer.{Answer}
+use Rattle.tx_plan.specs.declared.answer.Answer.TheVariants as answer
 use Rattle.tx_machine.specs.Machine.{Rows, Sees, SeesRows, table_of}
 use Rattle.tx_core.specs.declared.event.Event.TheVariants.{Answered}
 use Rattle.tx_core.specs.declared.event.Outcome.TheVariants as outcome
 use Rattle.tx_core.specs.Histories.{History, Among, Begins}
 use Rattle.tx_core.specs.Shadow.{shadow}
 use Rattle.tx_core.specs.Worlds.{IsWorldRun}
+use Rattle.tx_transaction.specs.declared.state.Miss.{Miss}
+use Rattle.tx_laws.specs.Rows.{AreRowsOf}
 use Rattle.tx_laws.specs.Scans.{scan_at}
 use Rattle.tx_transfer.specs.Balances.{balance_of}
 
@@ -23,21 +26,15 @@ least = 0 ∷ []
 abbrev pub top : Key
 top = 255 ∷ []
 
--- Rows are those of the keys that pass a test: they rise, each is of such a key, and of each such
--- key they tell.
-pub record AreRowsOf (test : Key → Bool) (tells : Key → Option Value → Type 0) (rows : List KeyValue) : Type 0 where
-  pub rising : IsRising rows
-  pub within : (k : Key) (v : Value) → value_in rows k ≡ Some v → IsTrue (test k)
-  pub each : (k : Key) → IsTrue (test k) → tells k (value_in rows k)
-
 -- the sum of the balances that rows say
 abbrev pub balances_of : List KeyValue → ℕ
 balances_of rows = sum_by (λ row. balance_of row.value) rows
 
--- A number is the sum of the balances that the one-step machine sees at a timestamp on the keys from
--- one up to but not including another.
+-- A number is the sum of the balances that the one-step machine sees at a timestamp on the keys
+-- from one up to but not including another.
 abbrev pub IsSumOf : Rows → ℕ → Key → Key → ℕ → Type 0
-IsSumOf table at from to sum = (rows : List KeyValue) × AreRowsOf (is_between from to) (λ k found. Sees table k at found) rows
+IsSumOf table at from to sum = (rows : List KeyValue)
+    × AreRowsOf (is_between from to) (λ k found. Sees table k at found) rows
     × (sum ≡ balances_of rows)
 
 -- it is that of the keys up to one, in each world run that begins with what is known
@@ -72,8 +69,13 @@ pub record IsPage (bounds : List Key) (known : History) (at : ℕ) (from : Key) 
   pub sees : (h : History) → Begins known h → IsWorldRun bounds h
       → SeesRows (table_of (shadow h)).row (scan_at at from top MAX_SCAN_ROWS rows)
 
--- the balances of a page are added; where it may have been cut, but that of its last row, from whose
--- key is read on
+-- where a scan comes to rows, they are such a page
+abbrev pub IsPageOf : List Key → History → ℕ → Key → Result Answer Miss → Type 0
+IsPageOf bounds known at from (Ok (answer.Rows rows)) = IsPage bounds known at from rows
+IsPageOf bounds known at from _ = Unit {0}
+
+-- the balances of a page are added; where it may have been cut, but that of its last row, from
+-- whose key is read on
 abbrev pub AddsPage : List KeyValue → ℕ → ℕ → Option Key → Type 0
 AddsPage page old new None = (length page < MAX_SCAN_ROWS) × (new ≡ old + balances_of page)
 AddsPage page old new (Some key) = (front : List KeyValue) × (last : KeyValue) × (page ≡ front ++ last ∷ [])

@@ -1,31 +1,29 @@
 //! The context of a session: how it reaches the regions, and resolves what stands in its way.
-ghost use Rattle.std.specs.Prelude.{◌≡◌, ◌≤◌, true, IfOk, IfErr, OnErr};
+ghost use Rattle.std.specs.Prelude.{◌≡◌, ◌≤◌, IfOk, IfErr, OnErr};
 ghost use Rattle.tx_types.specs.Keys.{AreRising};
 ghost use Rattle.tx_types.specs.declared.fault.Fault.TheVariants as fault;
 ghost use Rattle.tx_core.specs.Histories.{last};
 ghost use Rattle.tx_core.specs.Laws.{WasToldOf};
 ghost use Rattle.tx_journal.specs.Known.{greatest_ts};
-ghost use Rattle.tx_transaction.specs.declared.state.Phase.TheVariants as phase;
-ghost use Rattle.tx_transaction.specs.Sessions.{is_declared, can_commit, can_abort, has_primary, due_prewrite, due_commit, due_abort};
+ghost use Rattle.tx_journal.specs.Senders.{IsSender};
 ghost use Rattle.tx_client.specs.Calls.{KeepsSet};
-ghost use Rattle.tx_client.specs.Walks.{get_walk, scan_walk, due_walk, heartbeat_walk};
 ghost use Rattle.tx_transfer.specs.Collecting.{Collects};
-ghost use Rattle.tx_transfer.specs.Counting.{with_read, with_sent};
+ghost use Rattle.tx_transfer.specs.Counting.{with_maybe};
 ghost use Rattle.tx_transfer.specs.Resolving.{HasLooked, Resolves, ResolvesMet};
-ghost use Rattle.tx_transfer.specs.Sending.{SendsOver};
+ghost use Rattle.tx_transfer.specs.Sending.{RepliesOver};
 
 use crate::refusals::Refusals;
 use std::alloc::Global;
 use std::sync::{Arc, Wait};
 use tx_cells::Families;
-use tx_client::{Miss, Resolved, Session, Status};
-use tx_core::Answer;
-use tx_journal::{JournalId, Seat, Told};
+use tx_client::{Resolved, Session, Status};
+use tx_journal::{JournalId, Lost, Reply, Request, Seat, Sender, Told};
 use tx_resolve::{gc, resolve};
 use tx_store::{Store, Wire};
 use tx_types::{Fault, Key, LockInfo, Ts};
 
-/// What the calls of a session need: the store, what its locks wait by, and a seat that resolves.
+/// What the calls of a session need: a way to the store, by which they send, and a seat that
+/// resolves. It counts what stands in the way of what is sent, but not of what resolves or collects.
 #[derive(Drop)]
 pub struct Context<J: JournalId, F: Families + Drop, R: Wait + Drop> {
     pub alloc: Global,
@@ -64,125 +62,50 @@ impl<J: JournalId, F: Families + Drop, R: Wait + Drop> Context<J, F, R> {
         self.refusals
     }
 
-    // For proofs: the keys between the regions rise. It does nothing when it runs.
-    pub(crate) fn know_rising(&self)
-        ensures { AreRising J.bounds }
+    /// For proofs: the keys between the regions rise, it takes what some region holds, and a reply
+    /// is to the request that was sent. It does nothing when it runs.
+    pub fn show(&self)
+        ensures rising { AreRising J.bounds }
+        ensures way { IsSender J.bounds
+            ⟦<Context<J, F, R> as Sender<Request<J>, Reply<J>>>⟧.fits
+            ⟦<Context<J, F, R> as Sender<Request<J>, Reply<J>>>⟧.sends
+            ⟦<Context<J, F, R> as Sender<Request<J>, Reply<J>>>⟧.keys_between }
+        ensures replies { RepliesOver ⟦<Context<J, F, R> as Sender<Request<J>, Reply<J>>>⟧.sends }
     {
         let _ = self.store.bounds();
     }
 
-    // Counts what a read was answered.
-    fn note(&mut self, answered: &Result<Answer, Miss>)
-        ensures { self.new ≡ record self.old { refusals = with_read self.old.refusals answered.now } }
+    // Counts what a request was answered.
+    fn note(&mut self, reply: &Reply<J>)
+        ensures { self.new ≡ record self.old { refusals = with_maybe self.old.refusals reply.now.answer } }
     {
-        if let Ok(answer) = answered {
+        if let Some(answer) = reply.answer() {
             self.refusals.add(answer);
         }
     }
+}
 
-    // Counts what was answered of a change, if one was due.
-    fn note_sent(&mut self, answered: &Result<Option<Answer>, Miss>)
-        ensures { self.new ≡ record self.old { refusals = with_sent self.old.refusals answered.now } }
-    {
-        if let Ok(Some(answer)) = answered {
-            self.refusals.add(answer);
-        }
+// A way to the regions of the store, which counts what stands in the way of each request.
+impl<J: JournalId, F: Families + Drop, R: Wait + Drop> Sender<Request<J>, Reply<J>>
+    for Context<J, F, R> {
+    ghost use Rattle.std.specs.Prelude.{◌≡◌};
+    ghost use Rattle.tx_store.specs.Stores.{Replies, TakesHeld};
+    ghost use Rattle.tx_transfer.specs.Counting.{with_reached};
+
+    ghost fits = { TakesHeld J.bounds };
+
+    ghost sends = { λ a q r b. Replies a q r b × (b ≡ record a { refusals = with_reached a.refusals r }) };
+
+    ghost keys_between = { λ a. J.bounds };
+
+    fn send(&mut self, request: Request<J>) -> Result<Reply<J>, Lost> {
+        let reply = self.store.run(&self.rt, request);
+        self.note(&reply);
+        Ok(reply)
     }
 
-    /// Reads a key.
-    pub fn get(&mut self, session: &mut Session<J>, key: &Key) -> Result<Answer, Miss>
-        ensures sends { SendsOver J.bounds session.old.seat (get_walk session.old.state key.now)
-            (session.new.state, result) session.new.seat }
-        ensures keeps { KeepsSet session.old.state session.new.state }
-        ensures counts { self.new ≡ record self.old { refusals = with_read self.old.refusals result } }
-    {
-        let mut wire = Wire::new(&self.rt, &self.store);
-        wire.show();
-        let answered = session.get(key, &mut wire);
-        self.note(&answered);
-        answered
-    }
-
-    /// Reads a range.
-    pub fn scan(
-        &mut self,
-        session: &mut Session<J>,
-        from: &Key,
-        to: &Key,
-        limit: u32,
-    ) -> Result<Answer, Miss>
-        ensures sends { SendsOver J.bounds session.old.seat
-            (scan_walk session.old.state J.bounds from.now to.now limit)
-            (session.new.state, result) session.new.seat }
-        ensures counts { self.new ≡ record self.old { refusals = with_read self.old.refusals result } }
-    {
-        let mut wire = Wire::new(&self.rt, &self.store);
-        wire.show();
-        let answered = session.scan(self.alloc, from, to, limit, &mut wire);
-        self.note(&answered);
-        answered
-    }
-
-    /// Sends the prewrite that is due.
-    pub fn prewrite(&mut self, session: &mut Session<J>) -> Result<Option<Answer>, Miss>
-        requires { is_declared session.old.state ≡ true }
-        ensures sends { SendsOver J.bounds session.old.seat
-            (due_walk session.old.state phase.Prewrite (due_prewrite session.old.state))
-            (session.new.state, result) session.new.seat }
-        ensures keeps { KeepsSet session.old.state session.new.state }
-        ensures counts { self.new ≡ record self.old { refusals = with_sent self.old.refusals result } }
-    {
-        let mut wire = Wire::new(&self.rt, &self.store);
-        wire.show();
-        let answered = session.prewrite_next(self.alloc, &mut wire);
-        self.note_sent(&answered);
-        answered
-    }
-
-    /// Sends the commit that is due.
-    pub fn commit(&mut self, session: &mut Session<J>) -> Result<Option<Answer>, Miss>
-        requires { can_commit session.old.state ≡ true }
-        ensures sends { SendsOver J.bounds session.old.seat
-            (due_walk session.old.state phase.Commit (due_commit session.old.state))
-            (session.new.state, result) session.new.seat }
-        ensures keeps { KeepsSet session.old.state session.new.state }
-        ensures counts { self.new ≡ record self.old { refusals = with_sent self.old.refusals result } }
-    {
-        let mut wire = Wire::new(&self.rt, &self.store);
-        wire.show();
-        let answered = session.commit_next(&mut wire);
-        self.note_sent(&answered);
-        answered
-    }
-
-    /// Sends what an abort has due.
-    pub fn abort(&mut self, session: &mut Session<J>) -> Result<Option<Answer>, Miss>
-        requires { can_abort session.old.state ≡ true }
-        ensures sends { SendsOver J.bounds session.old.seat
-            (due_walk session.old.state phase.Abort (due_abort session.old.state))
-            (session.new.state, result) session.new.seat }
-        ensures keeps { KeepsSet session.old.state session.new.state }
-        ensures counts { self.new ≡ record self.old { refusals = with_sent self.old.refusals result } }
-    {
-        let mut wire = Wire::new(&self.rt, &self.store);
-        wire.show();
-        let answered = session.abort_next(&mut wire);
-        self.note_sent(&answered);
-        answered
-    }
-
-    /// Asks that the primary's lock live so long after the start, in ticks.
-    pub fn heartbeat(&mut self, session: &mut Session<J>, ttl: u32) -> Result<Option<Answer>, Miss>
-        requires { has_primary session.old.state ≡ true }
-        ensures sends { SendsOver J.bounds session.old.seat (heartbeat_walk session.old.state ttl)
-            (session.new.state, result) session.new.seat }
-        ensures counts { self.new ≡ record self.old { refusals = with_sent self.old.refusals result } }
-    {
-        let mut wire = Wire::new(&self.rt, &self.store);
-        wire.show();
-        let answered = session.heartbeat(ttl, &mut wire);
-        self.note_sent(&answered);
-        answered
+    fn bounds(&self) -> &[Key] {
+        self.store.bounds()
     }
 }
 

@@ -10,6 +10,7 @@ mod operations;
 mod order;
 mod plain_reply;
 mod refusals;
+mod requests;
 mod seeds;
 mod source;
 mod total;

@@ -5,6 +5,7 @@ ghost use Rattle.tx_transfer.specs.Totals.{AddsPage, HasReadTo, IsPage, IsTotal,
 
 use crate::balance::{BALANCES, balance_of};
 use crate::context::Context;
+use crate::requests::page;
 use std::sync::Wait;
 use tx_cells::Families;
 use tx_client::Session;
@@ -58,12 +59,9 @@ fn read_page<J: JournalId, F: Families + Drop, R: Wait + Drop>(
         (IsPage J.bounds session.new.seat.events session.old.state.start from.now)) }
 {
     let to = Key::new(context.alloc, &[255])?;
-    // For proofs: the keys between the regions rise.
-    context.know_rising();
-    let answered = context.scan(session, from, &to, MAX_SCAN_ROWS);
-    // For proofs: what its seat has seen is a run.
-    session.show();
-    match answered {
+    // For proofs: it is a way to the regions, and the keys between them rise.
+    context.show();
+    match page(context.alloc, session, from, &to, context) {
         Ok(Answer::Rows(rows)) => Ok(Some(rows)),
         Ok(Answer::KeyIsLocked(_)) => {
             drop(context.resolve(session, Some(Ts::new(u64::MAX)))?);

@@ -12,12 +12,13 @@ ghost use Rattle.tx_transfer.specs.declared.balance.TheConstants.{BALANCES};
 use crate::balance::{after_transfer, balance_of, value_of};
 use crate::context::Context;
 use crate::order::Order;
+use crate::requests;
 use crate::source::Source;
 use std::alloc::Global;
 use std::marker::Model;
 use std::sync::Wait;
 use tx_cells::Families;
-use tx_client::{Miss, Session, Terms};
+use tx_client::{Miss, Phase, Session, Terms};
 use tx_core::Answer;
 use tx_journal::JournalId;
 use tx_latch::{Slot, slot_of};
@@ -231,6 +232,15 @@ fn declare<J: JournalId, L: Source>(
     })
 }
 
+// The key that is read in this phase.
+fn key_of<L: Source>(order: &Order<L>, phase: TransferPhase) -> &Key {
+    if phase == TransferPhase::ReadFrom {
+        &order.from
+    } else {
+        &order.to
+    }
+}
+
 impl<J: JournalId, L: Source> TransferState<J, L> {
     // The balance of a key was read.
     fn on_balance(&mut self, alloc: Global, balance: u64) -> TransferProgress
@@ -258,6 +268,17 @@ impl<J: JournalId, L: Source> TransferState<J, L> {
         }
     }
 
+    // Reads the key that is read next.
+    fn look<F: Families + Drop, R: Wait + Drop>(
+        &mut self,
+        context: &mut Context<J, F, R>,
+    ) -> Result<Answer, Miss>
+        ensures { self.new ≡ self.old }
+    {
+        context.show();
+        requests::get(&mut self.session, key_of(&self.order, self.phase), context)
+    }
+
     // Reads the balance that is read next.
     fn read<F: Families + Drop, R: Wait + Drop>(
         &mut self,
@@ -265,12 +286,7 @@ impl<J: JournalId, L: Source> TransferState<J, L> {
     ) -> TransferProgress
         ensures { self.new ≡ self.old }
     {
-        let answered = if self.phase == TransferPhase::ReadFrom {
-            context.get(&mut self.session, &self.order.from)
-        } else {
-            context.get(&mut self.session, &self.order.to)
-        };
-        match answered {
+        match self.look(context) {
             Ok(Answer::Found(value)) => {
                 self.on_balance(context.alloc, balance_of(value.as_bytes()))
             }
@@ -330,7 +346,8 @@ impl<J: JournalId, L: Source> TransferState<J, L> {
         if !self.session.is_declared() {
             return TransferProgress::Over;
         }
-        let answered = context.prewrite(&mut self.session);
+        context.show();
+        let answered = requests::prewrite(context.alloc, &mut self.session, context);
         self.on_prewrite(context.alloc, answered)
     }
 
@@ -343,7 +360,8 @@ impl<J: JournalId, L: Source> TransferState<J, L> {
         ensures { self.new ≡ self.old }
     {
         match answered {
-            Ok(Some(Answer::Committed(_))) if self.session.has_commit() => TransferProgress::More,
+            Ok(Some(Answer::Committed(_))) if self.session.transaction().is_due(Phase::Commit) =>
+                TransferProgress::More,
             Ok(Some(Answer::Committed(_) | Answer::BelowSafePoint { .. })) | Ok(None) | Err(_) =>
                 TransferProgress::Over,
             Ok(Some(_)) => {
@@ -370,7 +388,8 @@ impl<J: JournalId, L: Source> TransferState<J, L> {
         if !self.session.can_commit() {
             return self.turn_to_abort();
         }
-        let answered = context.commit(&mut self.session);
+        context.show();
+        let answered = requests::commit(&mut self.session, context);
         let may_abort = self.session.can_abort();
         self.on_commit(may_abort, answered)
     }
@@ -383,7 +402,8 @@ impl<J: JournalId, L: Source> TransferState<J, L> {
         ensures { self.new ≡ self.old }
     {
         if self.session.can_abort() {
-            return match context.abort(&mut self.session) {
+            context.show();
+            return match requests::abort(&mut self.session, context) {
                 Ok(None) | Ok(Some(Answer::BelowSafePoint { .. })) | Err(_) =>
                     TransferProgress::Over,
                 Ok(Some(_)) => TransferProgress::More,

@@ -24,9 +24,16 @@ ended (x ∷ xs) (y ∷ ys) (inl h) = absurd (omega (arith, h))
 ended (x ∷ xs) (y ∷ ys) (inr h) = absurd (omega (arith, h))
 
 -- at the end of one the lengths of both decide
-pub lengths_decide : (a b : List ℕ) (at : ℕ) → at ≤ length a → at ≤ length b → (length a ≡ at) ⊎ (length b ≡ at) → slice_cmp nat_cmp (drop at a) (drop at b) ≡ nat_cmp (length a) (length b)
+pub lengths_decide : (a b : List ℕ) (at : ℕ) → at ≤ length a
+    → at ≤ length b → (length a ≡ at) ⊎ (length b ≡ at)
+    → slice_cmp nat_cmp (drop at a) (drop at b) ≡ nat_cmp (length a) (length b)
 lengths_decide a b at ha hb one =
-    ended (drop at a) (drop at b) (elim one [ inl e ↦ inl (omega (arith, length-drop at a, e)) | inr e ↦ inr (omega (arith, length-drop at b, e)) ])
+    ended (drop at a) (drop at b)
+    (elim one [
+      | inl e ↦ inl (omega (arith, length-drop at a, e))
+      | inr e ↦
+          inr (omega (arith, length-drop at b, e))
+    ])
     ∙ ap (λ n. nat_cmp n (length (drop at b))) (length-drop at a)
     ∙ ap (nat_cmp (length a - at)) (length-drop at b)
     ∙ shifted (length a) (length b) at ha hb

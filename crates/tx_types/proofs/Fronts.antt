@@ -20,9 +20,12 @@ group_at zero m (b ∷ bytes) i lt = absurd (omega (arith, lt))
 group_at (suc k) m (b ∷ bytes) zero lt = refl
 group_at (suc k) m (b ∷ bytes) (suc i) lt = group_at k m bytes i (omega (arith, lt))
 
-pub front_group : (bytes : List ℕ) (group : List ℕ) → group ≡ take 8 (bytes ++ replicate 8 0) → from_be_bytes w64 group ≡ front bytes
+pub front_group : (bytes : List ℕ) (group : List ℕ) → group ≡ take 8 (bytes ++ replicate 8 0)
+    → from_be_bytes w64 group ≡ front bytes
 front_group bytes group is =
-    let at : (i : ℕ) → i < 8 → get_or group i 0 ≡ get_or bytes i 0 = λ i lt. ap (λ (t : List ℕ). get_or t i 0) is ∙ group_at 8 8 bytes i lt in
+    let at : (i : ℕ) → i < 8
+    → get_or group i 0 ≡ get_or bytes i 0 = λ i lt. ap (λ (t : List ℕ). get_or t i 0) is
+    ∙ group_at 8 8 bytes i lt in
     let a = at 0 (omega arith) in
     let b = at 1 (omega arith) in
     let c = at 2 (omega arith) in

@@ -9,7 +9,8 @@ drop_drop : (k a n : ℕ) → drop {A = ℕ} k (drop a (replicate n 0)) ≡ repl
 drop_drop k a n = ap (drop {A = ℕ} k) (drop-replicate a n 0) ∙ drop-replicate k (n - a) 0
 
 pub two_parts : (n : ℕ) (front back g h : List ℕ) → g ≡ front → h ≡ back
-    → put_mid (length front) (length front + length back - length front) (g ++ drop (length front) (replicate n 0)) h ≡ (front ++ back) ++ replicate (n - (length front + length back)) 0
+    → put_mid (length front) (length front + length back - length front)
+    (g ++ drop (length front) (replicate n 0)) h ≡ (front ++ back) ++ replicate (n - (length front + length back)) 0
 two_parts n front back g h eg eh =
     let a = length front in
     let left : List ℕ = drop a (replicate n 0) in
@@ -23,16 +24,22 @@ two_parts n front back g h eg eh =
     ∙ ap (λ (w : List ℕ). front ++ (back ++ w)) (rest ∙ ap (λ (m : ℕ). replicate m 0) count)
     ∙ sym (append_assoc front back (replicate (n - (a + length back)) 0))
 
-take_zeros : (k : ℕ) (xs : List ℕ) (a b : ℕ) → k ≤ length xs + a → k ≤ length xs + b → take k (xs ++ replicate a 0) ≡ take k (xs ++ replicate b 0)
-take_zeros k [] a b more other = take-replicate k a 0 (omega (arith, more)) ∙ sym (take-replicate k b 0 (omega (arith, other)))
+take_zeros : (k : ℕ) (xs : List ℕ) (a b : ℕ) → k ≤ length xs + a → k ≤ length xs + b
+    → take k (xs ++ replicate a 0) ≡ take k (xs ++ replicate b 0)
+take_zeros k [] a b more other = take-replicate k a 0 (omega (arith, more))
+    ∙ sym (take-replicate k b 0 (omega (arith, other)))
 take_zeros zero (x ∷ xs) a b more other = refl
-take_zeros (suc k) (x ∷ xs) a b more other = ap (λ t. x ∷ t) (take_zeros k xs a b (omega (arith, more)) (omega (arith, other)))
+take_zeros (suc k) (x ∷ xs) a b more other =
+    ap (λ t. x ∷ t) (take_zeros k xs a b (omega (arith, more)) (omega (arith, other)))
 
 -- the first of an array that has zeros behind its first bytes are theirs, with zeros behind them
-pub first_of : (len m : ℕ) (bytes first : List ℕ) → first ≡ take 8 bytes → length first ≡ 8 → drop len bytes ≡ replicate m 0 → first ≡ take 8 (take len bytes ++ replicate 8 0)
+pub first_of : (len m : ℕ) (bytes first : List ℕ)
+    → first ≡ take 8 bytes → length first ≡ 8 → drop len bytes ≡ replicate m 0
+    → first ≡ take 8 (take len bytes ++ replicate 8 0)
 first_of len m bytes first is eight zeros =
     let few : List ℕ = take len bytes in
     let whole : bytes ≡ few ++ replicate m 0 = sym (take-append-drop len bytes) ∙ ap (λ (t : List ℕ). few ++ t) zeros in
-    let size : length bytes ≡ length few + m = ap length whole ∙ length-append few (replicate m 0) ∙ ap (λ k. length few + k) (length-replicate {A = ℕ} m 0) in
+    let size : length bytes ≡ length few + m =
+    ap length whole ∙ length-append few (replicate m 0) ∙ ap (λ k. length few + k) (length-replicate {A = ℕ} m 0) in
     let room : min 8 (length bytes) ≡ 8 = sym (length-take 8 bytes) ∙ sym (ap length is) ∙ eight in
     is ∙ ap (take 8) whole ∙ take_zeros 8 few m 8 (omega (arith, size, room)) (omega arith)

@@ -89,7 +89,8 @@ splits (o ∷ os) k = elim (cases_eq o.key k) [
 ]
 
 module _ (r : Recording) (orders : Orders) (x : Explanation) (e : Explains r orders x) (once : ArePutOnce r)
-    (each : (t : ℕ) → IsOnce (ops_of r t)) (k w y : ℕ) (f : Effect) (put : IsPut r w k y) (effect : IsEffect (ops_of r w) k f)
+    (each : (t : ℕ) → IsOnce (ops_of r t)) (k w y : ℕ) (f : Effect) (put : IsPut r w k y)
+    (effect : IsEffect (ops_of r w) k f)
     (adds : f.clears ≡ false) (some : 1 ≤ length f.values.items) (first : get_or f.values.items 0 0 ≡ y) where
   -- the value is not among those that another one puts
   not_of : (u : ℕ) (values : List ℕ) (i : ℕ) → (u ≡ w → ⊥) → ((v : ℕ) → Contains values v → PutsIn (ops_of r u) k v)
@@ -98,7 +99,8 @@ module _ (r : Recording) (orders : Orders) (x : Explanation) (e : Explains r ord
       let P : ℕ → Type 0 = λ v. PutsIn (ops_of r u) k v in
       other (once u w k k y (subst P is (puts (get_or values i 0) (Contains-get_or values i 0 lt))) put)
 
-  of_own : (at p : ℕ) (l base : List ℕ) → Sees r x k at l → l ≡ after (ops_of r w) k base → Sees r x k (x.start w) base → p < length l
+  of_own : (at p : ℕ) (l base : List ℕ) → Sees r x k at l → l ≡ after (ops_of r w) k base → Sees r x k (x.start w) base
+      → p < length l
       → get_or l p 0 ≡ y → Sees r x k (x.start w) (take p l)
   of_own at p l base sees is before lt there =
       let own = f.values.items in
@@ -108,7 +110,9 @@ module _ (r : Recording) (orders : Orders) (x : Explanation) (e : Explains r ord
       let here : get_or l (length base) 0 ≡ y = ap (λ q. get_or q (length base) 0) whole
       ∙ get_or-append_right base own (length base) (length base) 0 refl (omega arith)
       ∙ ap (λ q. get_or own q 0) (omega arith) ∙ first in
-      let same : p ≡ length base = seen_distinct r orders x e once each k at l sees p (length base) lt (omega (arith, n, m, some)) (there ∙ sym here) in
+      let same : p ≡ length base =
+      seen_distinct r orders x e once each k at l sees p (length base) lt (omega (arith, n, m, some))
+      (there ∙ sym here) in
       subst (λ q. Sees r x k (x.start w) q) (sym (ap (λ q. take p q) whole ∙ take_at base own p (sym same))) before
 
   pub base_below : (n at p : ℕ) (l : List ℕ) → at < n → Sees r x k at l → p < length l → get_or l p 0 ≡ y
@@ -142,15 +146,19 @@ module _ (r : Recording) (orders : Orders) (x : Explanation) (e : Explains r ord
                     | inl low ↦ (
                         let before = base_below n (x.start u) p base (omega (arith, lt, upto, above)) sees low
                         (sym (get_or_append_left base s.values 0 p low) ∙ ap (λ z. get_or z p 0) (sym e) ∙ there) in
-                        subst (λ z. Sees r x k (x.start w) z) (sym (ap (λ z. take p z) e ∙ take-append-le p base s.values (omega (arith, low)))) before
+                        subst (λ z. Sees r x k (x.start w)
+                        z) (sym (ap (λ z. take p z) e ∙ take-append-le p base s.values (omega (arith, low)))) before
                         )
-                    | inr high ↦ absurd (not_of u s.values (p - length base) other s.put (omega (arith, m, q, high, within))
-                        (sym (get_or-append_right base s.values (length base) p 0 refl high) ∙ ap (λ z. get_or z p 0) (sym e) ∙ there))
+                    | inr high ↦ absurd (not_of u s.values (p - length base) other s.put
+                        (omega (arith, m, q, high, within))
+                        (sym (get_or-append_right base s.values (length base) p 0 refl high)
+                        ∙ ap (λ z. get_or z p 0) (sym e) ∙ there))
                   ]
                   )
             ]
             )
       ]
 
-  pub base_of : (at p : ℕ) (l : List ℕ) → Sees r x k at l → p < length l → get_or l p 0 ≡ y → Sees r x k (x.start w) (take p l)
+  pub base_of : (at p : ℕ) (l : List ℕ) → Sees r x k at l → p < length l → get_or l p 0 ≡ y
+      → Sees r x k (x.start w) (take p l)
   base_of at p l sees within there = base_below (at + 1) at p l (omega arith) sees within there

@@ -29,9 +29,11 @@ use Rattle.tx_verdict.proofs.Linking.{based_link, no_gap}
 use Rattle.tx_verdict.proofs.Seeing.{view_sees, owner_is}
 
 -- the last of the first i + 1 versions is linked to the one before
-last_link : (r : Recording) (k : ℕ) (ws : List ℕ) (i j : ℕ) (known based : Bool) → j + 1 ≡ i → i < length ws → AreWriters r k ws
+last_link : (r : Recording) (k : ℕ) (ws : List ℕ) (i j : ℕ) (known based : Bool) → j + 1 ≡ i → i < length ws
+    → AreWriters r k ws
     → (IsTrue known → (q : ℕ) → q < i → IsBased r k ws q) → (IsTrue based → IsBased r k ws i)
-    → ((i ≡ 0) ⊎ IsTrue based) ⊎ (IsTrue known × ((q : ℕ) → q < i → slice_index ws q ≢ slice_index ws i)) → IsLinked r ws j
+    → ((i ≡ 0) ⊎ IsTrue based) ⊎ (IsTrue known × ((q : ℕ) → q < i → slice_index ws q ≢ slice_index ws i))
+    → IsLinked r ws j
 last_link r k ws i j known based at lt writers all one (inl (inl none)) = absurd (omega (arith, at, none))
 last_link r k ws i j known based at lt writers all one (inl (inr is)) =
     based_link r k ws j (subst (λ q. IsBased r k ws q) (sym at) (one is))
@@ -65,7 +67,8 @@ one_of : (r : Recording) (t p : ℕ) → p < length (ops_of r t) → t < txns_of
 one_of r t p lt = elim (cases_lt t (txns_of r)) [
   | inl below ↦ below
   | inr past ↦ absurd (
-      let e = ap (λ (q : Transaction). length (slice_range r.ops.items q.first q.upto)) (get_or_past r.transactions.items t no_transaction past) in
+      let e = ap (λ (q : Transaction). length (slice_range r.ops.items q.first q.upto))
+      (get_or_past r.transactions.items t no_transaction past) in
       omega (arith, lt, e)
       )
 ]
@@ -74,7 +77,8 @@ one_of r t p lt = elim (cases_lt t (txns_of r)) [
 pub once_each : (r : Recording) (table : List (Option Owner)) → AreOwners r table → (t : ℕ) → IsOnce (ops_of r t)
 once_each r table owners t p q v a b put also =
     let in_all = owners.all t (one_of r t p a) in
-    let e : Some record { txn = t; place = p } ≡ Some record { txn = t; place = q } = sym (in_all p v a put) ∙ in_all q v b also in
+    let e : Some record { txn = t; place = p } ≡ Some record { txn = t; place = q } =
+    sym (in_all p v a put) ∙ in_all q v b also in
     let same : record { txn = t; place = p } ≡ record { txn = t; place = q } = grind (arith, e) in
     ap (λ (o : Owner). o.place) same
 
@@ -90,7 +94,8 @@ first_put os k y f effect adds some first =
       | inr put ↦ subst (λ q. PutsIn os k q) first put
     ]
 
-module _ (r : Recording) (table : List (Option Owner)) (owners : AreOwners r table) (v : View) (view : IsViewOf r v) (list : List ℕ)
+module _ (r : Recording) (table : List (Option Owner)) (owners : AreOwners r table) (v : View) (view : IsViewOf r v)
+    (list : List ℕ)
     (is : list ≡ list_of r v.span) (p k w : ℕ) (of_key : v.key ≡ k) (within : p < length list) (f : Effect)
     (effect : IsEffect (ops_of r w) k f) (adds : f.clears ≡ false) (some : 1 ≤ length f.values.items)
     (first : get_or f.values.items 0 0 ≡ get_or list p 0) where
@@ -98,9 +103,11 @@ module _ (r : Recording) (table : List (Option Owner)) (owners : AreOwners r tab
   front : (orders : Orders) (x : Explanation) → Explains r orders x → Sees r x k (x.start w) (take p list)
   front orders x e =
       let P : ℕ → Type 0 = λ q. Sees r x q (x.start v.txn) list in
-      let sees = subst P of_key (subst (λ q. Sees r x v.key (x.start v.txn) q) (sym is) (view_sees r orders x e v view)) in
+      let sees = subst P of_key
+      (subst (λ q. Sees r x v.key (x.start v.txn) q) (sym is) (view_sees r orders x e v view)) in
       let put = first_put (ops_of r w) k (get_or list p 0) f effect adds some first in
-      base_of r orders x e (put_once r table owners) (once_each r table owners) k w (get_or list p 0) f put effect adds some first
+      base_of r orders x e (put_once r table owners) (once_each r table owners) k w (get_or list p 0) f put effect adds
+      some first
       (x.start v.txn) p list sees within refl
 
   pub within_first : (ws : List ℕ) (i : ℕ) → i ≡ 0 → p ≡ 0 → slice_index ws i ≡ w → IsBased r k ws i
@@ -109,12 +116,14 @@ module _ (r : Recording) (table : List (Option Owner)) (owners : AreOwners r tab
       let Q : ℕ → Type 0 = λ q. slice_index ws q ≡ w in
       let of_w = subst Q none by in
       subst P (sym none) (λ orders x e other writer.
-      (let lt = seen_none r orders x e k (x.start w) (take p list) (front orders x e) (ap (λ q. take q list) at) other writer in
+      (let lt = seen_none r orders x e k (x.start w) (take p list) (front orders x e)
+      (ap (λ q. take q list) at) other writer in
       let s = ap x.start of_w in
       omega (arith, lt, s)))
 
   pub within_next : (ws : List ℕ) (i : ℕ) → (i ≡ 0 → ⊥) → (p ≡ 0 → ⊥) → slice_index ws i ≡ w
-      → ((o : Owner) × (owner_at table (get_or list (p - 1) 0) ≡ Some o) × (o.txn ≡ slice_index ws (i - 1))) → IsBased r k ws i
+      → ((o : Owner) × (owner_at table (get_or list (p - 1) 0) ≡ Some o) × (o.txn ≡ slice_index ws (i - 1)))
+      → IsBased r k ws i
   within_next ws zero ne_i ne_p by last orders x e = absurd (ne_i refl)
   within_next ws (suc i) ne_i ne_p by (o, at, of_before) orders x e =
       let before = p - 1 in
@@ -122,8 +131,11 @@ module _ (r : Recording) (table : List (Option Owner)) (owners : AreOwners r tab
       let lower : before < length list = omega (arith, within, ne_p) in
       let end : IsLast (take p list) (get_or list before 0) =
       (take before list, ap (λ z. take z list) (sym q) ∙ take_more list before 0 lower) in
-      let (u, newest, put, ends) = seen_last r orders x e k (x.start w) (take p list) (get_or list before 0) (front orders x e) end in
-      let same : u ≡ slice_index ws i = sym (owner_is r table u k (get_or list before 0) o owners put at) ∙ of_before ∙ ap (slice_index ws) (omega arith) in
+      let (u, newest, put, ends) =
+      seen_last r orders x e k (x.start w) (take p list) (get_or list before 0) (front orders x e) end in
+      let same : u ≡ slice_index ws i =
+      sym (owner_is r table u k (get_or list before 0) o owners put at) ∙ of_before
+      ∙ ap (slice_index ws) (omega arith) in
       let P : ℕ → Type 0 = λ z. IsNewest r x k (x.start w) z in
       let Q : ℕ → Type 0 = λ z. IsNewest r x k (x.start z) (slice_index ws i) in
       subst Q (sym by) (subst P same newest)
@@ -143,8 +155,10 @@ based_next r k ws (suc i) some all orders x e =
     subst P at (all orders x e)
 
 -- a read of no version, and of one
-pub read_none : (r : Recording) (v : Versions) (p : Read) (k : ℕ) → p.txn < txns_of r → k ≡ key_of v p.key → p.version ≡ 0
-    → ((orders : Orders) (x : Explanation) → Explains r orders x → (w : ℕ) → IsWriter r x w k → x.start p.txn < x.commit w)
+pub read_none : (r : Recording) (v : Versions) (p : Read) (k : ℕ) → p.txn < txns_of r → k ≡ key_of v p.key
+    → p.version ≡ 0
+    → ((orders : Orders) (x : Explanation) → Explains r orders x → (w : ℕ) → IsWriter r x w k
+    → x.start p.txn < x.commit w)
     → IsReadForced r v p
 read_none r v p k lt is none all = (
   lt,
@@ -154,9 +168,11 @@ read_none r v p k lt is none all = (
   ),
 )
 
-pub read_some : (r : Recording) (v : Versions) (p : Read) (k : ℕ) → p.txn < txns_of r → k ≡ key_of v p.key → (ws : List ℕ)
+pub read_some : (r : Recording) (v : Versions) (p : Read) (k : ℕ) → p.txn < txns_of r → k ≡ key_of v p.key
+    → (ws : List ℕ)
     → ws ≡ writers_of v.recorded p.key → (p.version ≡ 0 → ⊥)
-    → ((orders : Orders) (x : Explanation) → Explains r orders x → IsNewest r x k (x.start p.txn) (slice_index ws (p.version - 1)))
+    → ((orders : Orders) (x : Explanation) → Explains r orders x
+    → IsNewest r x k (x.start p.txn) (slice_index ws (p.version - 1)))
     → IsReadForced r v p
 read_some r v p k lt is ws same some all = (
   lt,
@@ -170,7 +186,8 @@ read_some r v p k lt is ws same some all = (
 
 -- one version more, by the writers as they are at hand
 pub more_links : (r : Recording) (k : ℕ) (own ws : List ℕ) (i : ℕ) (known based next : Bool) → ws ≡ own → i < length ws
-    → AreWriters r k own → ((j : ℕ) → j + 1 < i → IsLinked r own j) → (IsTrue known → (q : ℕ) → q < i → IsBased r k own q)
+    → AreWriters r k own → ((j : ℕ) → j + 1 < i → IsLinked r own j)
+    → (IsTrue known → (q : ℕ) → q < i → IsBased r k own q)
     → (IsTrue based → IsBased r k ws i)
     → ((i ≡ 0) ⊎ IsTrue based) ⊎ (IsTrue known × ((q : ℕ) → q < i → slice_index ws q ≢ slice_index ws i))
     → next ≡ (known && based)
@@ -178,14 +195,16 @@ pub more_links : (r : Recording) (k : ℕ) (own ws : List ℕ) (i : ℕ) (known 
 more_links r k own ws i known based next is lt writers links all one more at =
     let n = ap length is in
     let now = λ (b : IsTrue based). subst (λ z. IsBased r k z i) is (one b) in
-    let R : List ℕ → Type 0 = λ z. ((i ≡ 0) ⊎ IsTrue based) ⊎ (IsTrue known × ((q : ℕ) → q < i → slice_index z q ≢ slice_index z i)) in (
+    let R : List ℕ → Type 0 = λ z. ((i ≡ 0) ⊎ IsTrue based)
+    ⊎ (IsTrue known × ((q : ℕ) → q < i → slice_index z q ≢ slice_index z i)) in (
       link_more r k own i known based (omega (arith, n, lt)) writers links all now (subst R is more),
       λ both. based_more r k own i known based all now (sym at ∙ both),
     )
 
 pub chain_of : (r : Recording) (v : Versions) (q k : ℕ) → k ≡ key_of v q → AreWriters r k (writers_of v.recorded q)
     → ((i : ℕ) → i + 1 < length (writers_of v.recorded q) → IsLinked r (writers_of v.recorded q) i) → IsChain r v q
-chain_of r v q k is writers links = (let P : ℕ → Type 0 = λ z. AreWriters r z (writers_of v.recorded q) in subst P is writers, links)
+chain_of r v q k is writers links =
+    (let P : ℕ → Type 0 = λ z. AreWriters r z (writers_of v.recorded q) in subst P is writers, links)
 
 -- past the last chain there are no versions
 pub no_chain : (r : Recording) (v : Versions) (q : ℕ) → length v.recorded.heads.items ≤ q + 1 → IsChain r v q

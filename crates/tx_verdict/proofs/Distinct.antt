@@ -17,7 +17,8 @@ pub use Rattle.tx_verdict.specs.Facts.{IsDistinct}
 
 -- operations that put each value once
 abbrev pub IsOnce : List Op → Type 0
-IsOnce os = (p q v : ℕ) → p < length os → q < length os → Puts (get_or os p no_op).act v → Puts (get_or os q no_op).act v → p ≡ q
+IsOnce os = (p q v : ℕ) → p < length os → q < length os → Puts (get_or os p no_op).act v
+    → Puts (get_or os q no_op).act v → p ≡ q
 
 pub none_distinct : IsDistinct []
 none_distinct i j lt = absurd (omega (arith, lt))
@@ -30,7 +31,8 @@ push_distinct xs v distinct new i j a b e =
     let n = length_push xs v in
     elim (cases_lt i (length xs)) [
       | inl low ↦ elim (cases_lt j (length xs)) [
-        | inl also ↦ distinct i j low also (sym (get_or_append_left xs (v ∷ []) 0 i low) ∙ e ∙ get_or_append_left xs (v ∷ []) 0 j also)
+        | inl also ↦ distinct i j low also (sym (get_or_append_left xs (v ∷ []) 0 i low) ∙ e
+            ∙ get_or_append_left xs (v ∷ []) 0 j also)
         | inr last ↦ (
             let at : length xs ≡ j = omega (arith, n, b, last) in
             let same : get_or xs i 0 ≡ v = sym (get_or_append_left xs (v ∷ []) 0 i low) ∙ e ∙ get_or_push xs v 0 j at in
@@ -40,7 +42,8 @@ push_distinct xs v distinct new i j a b e =
       | inr last ↦ elim (cases_lt j (length xs)) [
         | inl low ↦ (
             let at : length xs ≡ i = omega (arith, n, a, last) in
-            let same : get_or xs j 0 ≡ v = sym (get_or_append_left xs (v ∷ []) 0 j low) ∙ sym e ∙ get_or_push xs v 0 i at in
+            let same : get_or xs j 0 ≡ v = sym (get_or_append_left xs (v ∷ []) 0 j low) ∙ sym e
+            ∙ get_or_push xs v 0 i at in
             absurd (new (subst (λ q. Contains xs q) same (Contains-get_or xs j 0 low)))
             )
         | inr also ↦ omega (arith, n, a, b, last, also)
@@ -48,7 +51,8 @@ push_distinct xs v distinct new i j a b e =
     ]
 
 once_rest : (o : Op) (os : List Op) → IsOnce (o ∷ os) → IsOnce os
-once_rest o os once p q v a b put also = (let e = once (suc p) (suc q) v (omega (arith, a)) (omega (arith, b)) put also in omega (arith, e))
+once_rest o os once p q v a b put also =
+    (let e = once (suc p) (suc q) v (omega (arith, a)) (omega (arith, b)) put also in omega (arith, e))
 
 -- what the first operation puts no later one does
 head_new : (o : Op) (os : List Op) (k v : ℕ) → IsOnce (o ∷ os) → Puts o.act v → PutsIn os k v → ⊥
@@ -62,7 +66,8 @@ head_new o os k v once put (q, (i, lt, is), e, also) =
 abbrev AreNew : List ℕ → List Op → ℕ → Type 0
 AreNew xs os k = (v : ℕ) → Contains xs v → PutsIn os k v → ⊥
 
-act_distinct : (a : Act) (xs : List ℕ) → IsDistinct xs → ((v : ℕ) → Puts a v → Contains xs v → ⊥) → IsDistinct (act_on a xs)
+act_distinct : (a : Act) (xs : List ℕ) → IsDistinct xs → ((v : ℕ) → Puts a v → Contains xs v → ⊥)
+    → IsDistinct (act_on a xs)
 act_distinct (Append w) xs distinct new = push_distinct xs w distinct (λ there. new w refl there)
 act_distinct (Write w) xs distinct new = one_distinct w
 act_distinct (Read s) xs distinct new = distinct
@@ -75,7 +80,8 @@ act_new (Write w) xs v c = elim (Contains-push_cases [] w v c) [
 ]
 act_new (Read s) xs v c = inl c
 
-pub after_distinct : (os : List Op) (k : ℕ) (xs : List ℕ) → IsDistinct xs → IsOnce os → AreNew xs os k → IsDistinct (after os k xs)
+pub after_distinct : (os : List Op) (k : ℕ) (xs : List ℕ) → IsDistinct xs → IsOnce os → AreNew xs os k
+    → IsDistinct (after os k xs)
 after_distinct [] k xs distinct once new = distinct
 after_distinct (o ∷ os) k xs distinct once new = elim (cases_eq o.key k) [
   | inl same ↦ subst IsDistinct (sym (after_same o os k xs same))

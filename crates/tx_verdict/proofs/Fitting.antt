@@ -23,7 +23,8 @@ found : (writer : ℕ → ℕ) (n t i : ℕ) → 1 ≤ i → i ≤ n → writer 
     → ((j : ℕ) → 1 ≤ j → j ≤ n → writer j ≡ t → j ≡ i) → last_by writer n t ≡ i
 found writer zero t i low high is only = absurd (omega (arith, low, high))
 found writer (suc n) t i low high is only = elim (cases_eq (writer (suc n)) t) [
-  | inl same ↦ cond-true _ (suc n) (last_by writer n t) (eq-eqb _ _ same) ∙ only (suc n) (omega arith) (omega arith) same
+  | inl same ↦ cond-true _ (suc n) (last_by writer n t) (eq-eqb _ _ same)
+      ∙ only (suc n) (omega arith) (omega arith) same
   | inr other ↦ (
       let ne : i ≡ suc n → ⊥ = λ e. other (ap writer (sym e) ∙ is) in
       let le : i ≤ n = omega (arith, high, ne) in
@@ -53,7 +54,8 @@ nothing_is_all : (xs : List ℕ) → xs ≡ 0 ∷ [] → length xs ≡ 0 → ⊥
 nothing_is_all xs e none = (let n = ap length e in omega (arith, n, none))
 
 module _ (r : Recording) (orders : Orders) (views : List View) (h : History) (live : ℕ → Bool) (text : ℕ → ℕ → List ℕ)
-    (start commit : ℕ → ℕ) (v : AreViews r views) (fit : IsFit r views h live text) (a : IsAssignment h start commit) where
+    (start commit : ℕ → ℕ) (v : AreViews r views) (fit : IsFit r views h live text)
+    (a : IsAssignment h start commit) where
   abbrev x : Explanation
   x = explanation_of h live text start commit
 
@@ -61,7 +63,8 @@ module _ (r : Recording) (orders : Orders) (views : List View) (h : History) (li
   below t is = elim (cases_lt t (txns_of r)) [
     | inl lt ↦ (let n = fit.txns in omega (arith, lt, n))
     | inr past ↦ absurd (
-        let none = fit.fail t (ap (λ (q : Transaction). q.outcome) (get_or_past r.transactions.items t no_transaction past)) in
+        let none = fit.fail t (ap (λ (q : Transaction). q.outcome)
+        (get_or_past r.transactions.items t no_transaction past)) in
         false≢true (sym none ∙ is)
         )
   ]
@@ -156,7 +159,8 @@ module _ (r : Recording) (orders : Orders) (views : List View) (h : History) (li
       ])
 
   leaves_at : (k t i : ℕ) → HasVersion h k i → h.writer k i ≡ t
-      → (xs : List ℕ) × Sees r x k (start t) xs × (text k (last_by (h.writer k) (h.count k) t) ≡ after (ops_of r t) k xs)
+      → (xs : List ℕ) × Sees r x k (start t) xs
+      × (text k (last_by (h.writer k) (h.count k) t) ≡ after (ops_of r t) k xs)
   leaves_at k t zero has is = absurd (let low = has.0 in omega (arith, low))
   leaves_at k t (suc i) has is =
       let more : HasVersion h k (i + 1) = (omega arith, let high = has.1 in omega (arith, high)) in
@@ -165,7 +169,8 @@ module _ (r : Recording) (orders : Orders) (views : List View) (h : History) (li
       × (text k (last_by (h.writer k) (h.count k) q) ≡ after (ops_of r q) k xs) in
       subst P at (text k i, sees_base k i more, ap (text k) (is_found k (i + 1) more) ∙ fit.leaves k i more)
 
-  leaves : (k t : ℕ) → IsWriter r x t k → (xs : List ℕ) × Sees r x k (start t) xs × (x.left t k ≡ after (ops_of r t) k xs)
+  leaves : (k t : ℕ) → IsWriter r x t k → (xs : List ℕ) × Sees r x k (start t) xs
+      × (x.left t k ≡ after (ops_of r t) k xs)
   leaves k t writer =
       let (i, has, is) = fit.placed t k writer.1.0 writer.0 writer.1.1 in
       leaves_at k t i has is
@@ -182,7 +187,8 @@ module _ (r : Recording) (orders : Orders) (views : List View) (h : History) (li
         | inl lt ↦ (let le = a.apart k i j has with_j lt in inl (omega (arith, le, ci, sj)))
         | inr ge ↦ elim (cases_eq i j) [
           | inl same ↦ absurd (ne (sym is ∙ ap (h.writer k) same ∙ at))
-          | inr other ↦ (let le = a.apart k j i with_j has (omega (arith, ge, other)) in inr (omega (arith, le, cj, si)))
+          | inr other ↦ (let le = a.apart k j i with_j has (omega (arith, ge, other)) in inr
+              (omega (arith, le, cj, si)))
         ]
       ]
 
@@ -209,7 +215,8 @@ module _ (r : Recording) (orders : Orders) (views : List View) (h : History) (li
       × (list_of r s ≡ after (take p (ops_of r t)) (op_at r t p).key xs)
   reads t p s ok is = elim (v.all t p (is_one r t ok) ok (within r t p s is) s is) [
     | inl own ↦ (
-        let (xs, sees_xs) = sees_own t p (op_at r t p).key (list_of r s) (fit.ok t (is_one r t ok) ok) own in (xs, sees_xs, own xs)
+        let (xs, sees_xs) = sees_own t p (op_at r t p).key (list_of r s)
+        (fit.ok t (is_one r t ok) ok) own in (xs, sees_xs, own xs)
         )
     | inr (w, in_views, of_t, of_key, same) ↦ (
         let P : ℕ → Type 0 = λ q. Sees r x q (start t) (list_of r w.span) in

@@ -30,7 +30,8 @@ module _ (r : Recording) (orders : Orders) (x : Explanation) (e : Explains r ord
   pub above_at : (k i : ℕ) → HasVersion h k i → x.start (h.writer k i) < x.commit (h.writer k i)
   above_at k i has = e.above (h.writer k i) (f.writers k i has).0
 
-  pub later : (k i j n : ℕ) → HasVersion h k i → HasVersion h k j → j ≡ i + 1 + n → x.commit (h.writer k i) ≤ x.start (h.writer k j)
+  pub later : (k i j n : ℕ) → HasVersion h k i → HasVersion h k j → j ≡ i + 1 + n
+      → x.commit (h.writer k i) ≤ x.start (h.writer k j)
   later k i j zero has more is =
       let P : ℕ → Type 0 = λ q. HasVersion h k q → x.commit (h.writer k i) ≤ x.start (h.writer k q) in
       let at : i + 1 ≡ j = omega (arith, is) in
@@ -46,7 +47,8 @@ module _ (r : Recording) (orders : Orders) (x : Explanation) (e : Explains r ord
       let next = subst P at (λ has_next. f.steps k (i + 1 + n) within has_next) more in
       omega (arith, before, own, next)
 
-  pub apart : (k i j : ℕ) → HasVersion h k i → HasVersion h k j → i < j → x.commit (h.writer k i) ≤ x.start (h.writer k j)
+  pub apart : (k i j : ℕ) → HasVersion h k i → HasVersion h k j → i < j
+      → x.commit (h.writer k i) ≤ x.start (h.writer k j)
   apart k i j has more lt = later k i j (j - (i + 1)) has more (omega (arith, lt))
 
   pub newest : (p : Read) (j : ℕ) → Contains h.reads p → HasVersion h p.key j → p.version < j
@@ -61,17 +63,20 @@ module _ (r : Recording) (orders : Orders) (x : Explanation) (e : Explains r ord
         let up = above_at p.key j has in
         elim (cases_lt (x.start p.txn) (x.commit (h.writer p.key j))) [
           | inl so ↦ so
-          | inr upto ↦ absurd (let least = seen.2 (h.writer p.key j) (f.writers p.key j has) upto in omega (arith, least, before, up))
+          | inr upto ↦ absurd (let least =
+              seen.2 (h.writer p.key j) (f.writers p.key j has) upto in omega (arith, least, before, up))
         ]
         )
   ]
 
 -- what has committed is one of the transactions
-pub committed_within : (r : Recording) (orders : Orders) (x : Explanation) → Explains r orders x → (t : ℕ) → IsTrue (x.committed t) → t < txns_of r
+pub committed_within : (r : Recording) (orders : Orders) (x : Explanation) → Explains r orders x → (t : ℕ)
+    → IsTrue (x.committed t) → t < txns_of r
 committed_within r orders x e t is = elim (cases_lt t (txns_of r)) [
   | inl lt ↦ lt
   | inr past ↦ absurd (
-      let none = e.fail t (ap (λ (q : Transaction). q.outcome) (get_or_past r.transactions.items t no_transaction past)) in
+      let none = e.fail t (ap (λ (q : Transaction). q.outcome)
+      (get_or_past r.transactions.items t no_transaction past)) in
       false≢true (sym none ∙ is)
       )
 ]
@@ -82,7 +87,8 @@ start_in r x room tick t = cond (ltb t (txns_of r)) (room * x.start t + (room - 
     (room * tick (t - txns_of r) + (2 * (t - txns_of r) + 1))
 
 abbrev pub commit_in : Recording → Explanation → ℕ → (ℕ → ℕ) → ℕ → ℕ
-commit_in r x room tick t = cond (ltb t (txns_of r)) (room * end_of x t) (room * tick (t - txns_of r) + (2 * (t - txns_of r) + 2))
+commit_in r x room tick t =
+    cond (ltb t (txns_of r)) (room * end_of x t) (room * tick (t - txns_of r) + (2 * (t - txns_of r) + 2))
 
 pub wide_lt : (room a b : ℕ) → a < b → room * a + room ≤ room * b
 wide_lt room a b lt =
@@ -118,7 +124,8 @@ module _ (r : Recording) (orders : Orders) (x : Explanation) (e : Explains r ord
   writer_within : (k i : ℕ) → HasVersion h k i → h.writer k i < txns_of r
   writer_within k i has = committed_within r orders x e (h.writer k i) (f.writers k i has).0
 
-  writer_commits : (k i : ℕ) → HasVersion h k i → commit_in r x room tick (h.writer k i) ≡ room * x.commit (h.writer k i)
+  writer_commits : (k i : ℕ) → HasVersion h k i
+      → commit_in r x room tick (h.writer k i) ≡ room * x.commit (h.writer k i)
   writer_commits k i has = commit_low r x room tick (h.writer k i) (writer_within k i has)
       ∙ ap (λ q. room * q) (writer_ends r orders x e h key f k i has)
 
@@ -138,7 +145,8 @@ module _ (r : Recording) (orders : Orders) (x : Explanation) (e : Explains r ord
   own t = elim (cases_lt t (txns_of r)) [
     | inl lt ↦ (
         let is = commit_low r x room tick t lt in
-        let so = below t (end_of x t) lt (end_above r orders x e h key f (x.committed t) (x.start t) (x.commit t) (e.above t)) in
+        let so = below t (end_of x t) lt (end_above r orders x e h key f (x.committed t) (x.start t) (x.commit t)
+        (e.above t)) in
         omega (arith, is, so)
         )
     | inr past ↦ (
@@ -155,13 +163,15 @@ module _ (r : Recording) (orders : Orders) (x : Explanation) (e : Explains r ord
   assigned pairs = record {
     above = λ t _. own t;
     apart = λ k i j has more lt. (let same = writer_commits k i has in
-        let le = upto (x.commit (h.writer k i)) (h.writer k j) (writer_within k j more) (apart r orders x e h key f k i j has more lt) in
+        let le = upto (x.commit (h.writer k i)) (h.writer k j) (writer_within k j more)
+        (apart r orders x e h key f k i j has more lt) in
         omega (arith, same, le));
     seen = λ p is has. (let same = writer_commits p.key p.version has in
         let le = upto (x.commit (h.writer p.key p.version)) p.txn (f.readers p is) (f.seen p is has).1 in
         omega (arith, same, le));
     newest = λ p j is has lt. (let same = writer_commits p.key j has in
-        let up = below p.txn (x.commit (h.writer p.key j)) (f.readers p is) (newest r orders x e h key f p j is has lt) in
+        let up = below p.txn (x.commit (h.writer p.key j)) (f.readers p is)
+        (newest r orders x e h key f p j is has lt) in
         omega (arith, same, up));
     after = pairs;
   }

@@ -29,7 +29,8 @@ module _ (r : Recording) (orders : Orders) (x : Explanation) (e : Explains r ord
       ]
 
   pub no_gap : x.commit (slice_index ws n) ≤ x.start h
-  no_gap = elim (e.apart k h (slice_index ws n) writer (writers n (omega arith)) (λ same. other n (omega arith) (sym same))) [
-    | inl before ↦ absurd (not_below n (omega arith) before)
-    | inr later ↦ later
-  ]
+  no_gap = elim (e.apart k h (slice_index ws n) writer (writers n (omega arith))
+      (λ same. other n (omega arith) (sym same))) [
+        | inl before ↦ absurd (not_below n (omega arith) before)
+        | inr later ↦ later
+      ]

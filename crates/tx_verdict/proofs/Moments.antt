@@ -26,7 +26,8 @@ ended_commit Info q time c = 0
 -- then
 abbrev pub latest : Recording → Explanation → ℕ → ℕ → ℕ
 latest r x time zero = 0
-latest r x time (suc n) = max (latest r x time n) (ended_commit (transaction_at r n).outcome (transaction_at r n).ended time (x.commit n))
+latest r x time (suc n) =
+    max (latest r x time n) (ended_commit (transaction_at r n).outcome (transaction_at r n).ended time (x.commit n))
 
 ended_is : (o : Outcome) (q : Option ℕ) (e time c : ℕ) → o ≡ Ok → q ≡ Some e → e ≤ time → ended_commit o q time c ≡ c
 ended_is o q e time c ok at le =
@@ -38,7 +39,8 @@ ended_upto : (o : Outcome) (q : Option ℕ) (time c s : ℕ) → ((e : ℕ) → 
     → ended_commit o q time c ≤ s
 ended_upto Ok (Some e) time c s all = elim (cases_lt time e) [
   | inl lt ↦ (let is = cond-true (ltb time e) 0 c (lt-ltb time e lt) in omega (arith, is))
-  | inr le ↦ (let is = cond-false (ltb time e) 0 c (le-ltb time e le) in let up = all e refl refl le in omega (arith, is, up))
+  | inr le ↦ (let is = cond-false (ltb time e) 0 c (le-ltb time e le) in let up =
+      all e refl refl le in omega (arith, is, up))
 ]
 ended_upto Ok None time c s all = omega arith
 ended_upto Fail q time c s all = omega arith
@@ -58,7 +60,8 @@ module _ (r : Recording) (x : Explanation) where
     | inr ne ↦ (let up = latest_above time n t e (omega (arith, lt, ne)) ended le in omega (arith, up))
   ]
 
-  pub latest_upto : (time n s : ℕ) → ((t e : ℕ) → t < n → HasEnded r t e → e ≤ time → x.commit t ≤ s) → latest r x time n ≤ s
+  pub latest_upto : (time n s : ℕ) → ((t e : ℕ) → t < n → HasEnded r t e → e ≤ time → x.commit t ≤ s)
+      → latest r x time n ≤ s
   latest_upto time zero s all = omega arith
   latest_upto time (suc n) s all =
       let rest = latest_upto time n s (λ t e lt ended le. all t e (omega (arith, lt)) ended le) in
@@ -68,13 +71,15 @@ module _ (r : Recording) (x : Explanation) where
 
   pub latest_rises : (time later n : ℕ) → time ≤ later → latest r x time n ≤ latest r x later n
   latest_rises time later n le =
-      latest_upto time n (latest r x later n) (λ t e lt ended upto. latest_above later n t e lt ended (omega (arith, upto, le)))
+      latest_upto time n (latest r x later n)
+      (λ t e lt ended upto. latest_above later n t e lt ended (omega (arith, upto, le)))
 
 -- when what had ended by a moment has committed
 abbrev pub tick_of : Recording → Explanation → Versions → ℕ → ℕ
 tick_of r x v m = latest r x (time_of v m) (txns_of r)
 
-module _ (r : Recording) (orders : Orders) (x : Explanation) (e : Explains r orders x) (v : Versions) (known : AreKnown r v) (room : ℕ)
+module _ (r : Recording) (orders : Orders) (x : Explanation) (e : Explains r orders x) (v : Versions)
+    (known : AreKnown r v) (room : ℕ)
     (wide : 2 * length v.times.items + 3 ≤ room) where
   ends_at : (t : ℕ) → (transaction_at r t).outcome ≡ Ok → end_of x t ≡ x.commit t
   ends_at t ok = cond-true (x.committed t) (x.commit t) (x.start t + 1) (e.ok t (is_one r t ok) ok)
@@ -89,7 +94,8 @@ module _ (r : Recording) (orders : Orders) (x : Explanation) (e : Explains r ord
       let d = wide_le room (x.commit t) (x.start u) le in
       omega (arith, a, b, c, d)
 
-  pub pair_after : (p : After) → IsPair r orders v p → commit_in r x room (tick_of r x v) p.earlier ≤ start_in r x room (tick_of r x v) p.later
+  pub pair_after : (p : After) → IsPair r orders v p
+      → commit_in r x room (tick_of r x v) p.earlier ≤ start_in r x room (tick_of r x v) p.later
   pair_after p (inl (asked, live, session)) =
       let (process, lt, within, of_one, of_other, ok) = session in
       straight p.earlier p.later ok within (e.precedes p.earlier p.later (inl (asked, session))
@@ -104,13 +110,15 @@ module _ (r : Recording) (orders : Orders) (x : Explanation) (e : Explains r ord
   pair_after p (inr (inr (inl (m, n, (at, within), (also, inside), (lt, le))))) =
       let a = commit_high r x room (tick_of r x v) p.earlier m at in
       let b = start_high r x room (tick_of r x v) p.later n also in
-      let d = wide_le room (tick_of r x v m) (tick_of r x v n) (latest_rises r x (time_of v m) (time_of v n) (txns_of r) le) in
+      let d = wide_le room (tick_of r x v m) (tick_of r x v n)
+      (latest_rises r x (time_of v m) (time_of v n) (txns_of r) le) in
       omega (arith, a, b, d, lt)
   pair_after p (inr (inr (inr (m, b, asked, live, (at, within), (one, began), lt)))) =
       let c = commit_high r x room (tick_of r x v) p.earlier m at in
       let s = start_low r x room (tick_of r x v) p.later one in
       let up : tick_of r x v m ≤ x.start p.later = latest_upto r x (time_of v m) (txns_of r) (x.start p.later)
-      (λ t end below ended le. e.precedes t p.later (inr (asked, (end, b, omega (arith, le, lt), ended.1, began, ended.0)))
+      (λ t end below ended le. e.precedes t p.later
+      (inr (asked, (end, b, omega (arith, le, lt), ended.1, began, ended.0)))
       (e.ok t below ended.0) (known orders x e p.later live)) in
       let d = wide_le room (tick_of r x v m) (x.start p.later) up in
       omega (arith, c, s, d, wide, within)

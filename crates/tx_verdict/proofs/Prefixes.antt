@@ -23,10 +23,12 @@ Append_only os = (o : Op) → Contains os o → (v : ℕ) → o.act ≡ Write v 
 abbrev AddsTo : List Op → ℕ → Type 0
 AddsTo os k = (ys : List ℕ) × ((xs : List ℕ) → after os k xs ≡ xs ++ ys)
 
-head_adds : (o : Op) (os : List Op) (k : ℕ) (a : Act) → o.act ≡ a → o.key ≡ k → ((v : ℕ) → o.act ≡ Write v → ⊥) → AddsTo os k → AddsTo (o ∷ os) k
+head_adds : (o : Op) (os : List Op) (k : ℕ) (a : Act) → o.act ≡ a → o.key ≡ k → ((v : ℕ) → o.act ≡ Write v → ⊥)
+    → AddsTo os k → AddsTo (o ∷ os) k
 head_adds o os k (Append w) is at none (ys, adds) = (
   w ∷ ys,
-  λ xs. after_same o os k xs at ∙ ap (λ b. after os k (act_on b xs)) is ∙ adds (xs ++ w ∷ []) ∙ append_assoc xs (w ∷ []) ys,
+  λ xs. after_same o os k xs at ∙ ap (λ b. after os k (act_on b xs)) is ∙ adds (xs ++ w ∷ [])
+      ∙ append_assoc xs (w ∷ []) ys,
 )
 head_adds o os k (Write w) is at none rest = absurd (none w is)
 head_adds o os k (Read s) is at none (ys, adds) = (
@@ -50,7 +52,8 @@ only_of r lists t o (i, lt, is) v at =
 
 module _ (r : Recording) (orders : Orders) (x : Explanation) (e : Explains r orders x) (lists : AreLists r) where
   -- what is seen of a key until its next writer commits
-  held : (k a u : ℕ) (xs : List ℕ) → IsWriter r x u k → x.start u < a → a < x.commit u → Sees r x k (x.start u) xs → Sees r x k a xs
+  held : (k a u : ℕ) (xs : List ℕ) → IsWriter r x u k → x.start u < a → a < x.commit u → Sees r x k (x.start u) xs
+      → Sees r x k a xs
   held k a u xs writer above below (inl (w, newest, is)) =
       let upto = newest.1 in
       inl (
@@ -98,7 +101,8 @@ module _ (r : Recording) (orders : Orders) (x : Explanation) (e : Explains r ord
       let whole : ys ≡ base ++ more = is ∙ left ∙ adds base in
       elim (cases_lt a (x.commit u)) [
         | inr late ↦ (
-            let now : Sees r x k a ys = inl (u, (newest.0, late, λ w writer low. newest.2 w writer (omega (arith, low, le))), is) in
+            let now : Sees r x k a ys =
+            inl (u, (newest.0, late, λ w writer low. newest.2 w writer (omega (arith, low, le))), is) in
             ([], sees_unique r orders x e k a ys xs now one ∙ sym (append-nil xs))
             )
         | inl early ↦ elim (cases_lt (x.start u) a) [
@@ -107,7 +111,8 @@ module _ (r : Recording) (orders : Orders) (x : Explanation) (e : Explains r ord
               (more, whole ∙ ap (λ q. q ++ more) (sees_unique r orders x e k a base xs now one))
               )
           | inr before ↦ (
-              let (zs, parts) = begins_below n k a (x.start u) xs base (omega (arith, lt, upto, above)) before one sees in
+              let (zs, parts) = begins_below n k a (x.start u) xs base (omega (arith, lt, upto, above)) before one
+              sees in
               (zs ++ more, whole ∙ ap (λ q. q ++ more) parts ∙ append_assoc xs zs more)
               )
         ]

@@ -21,7 +21,8 @@ pub view_sees : (r : Recording) (orders : Orders) (x : Explanation) → Explains
     → Sees r x v.key (x.start v.txn) (list_of r v.span)
 view_sees r orders x e v (within, (p, span, (ok, act), of_key, iff)) =
     let (xs, sees, is) = e.reads v.txn p span ok act in
-    let P : ℕ → Type 0 = λ k. (ys : List ℕ) × Sees r x k (x.start v.txn) ys × (list_of r span ≡ after (take p (ops_of r v.txn)) k ys) in
+    let P : ℕ → Type 0 = λ k. (ys : List ℕ) × Sees r x k (x.start v.txn) ys
+    × (list_of r span ≡ after (take p (ops_of r v.txn)) k ys) in
     let (ys, at, same) = subst P of_key (xs, sees, is) in
     subst (λ q. Sees r x v.key (x.start v.txn) q) ((iff ys).0 same) at
 
@@ -38,7 +39,8 @@ pub last_at : (xs : List ℕ) (n : ℕ) → length xs ≡ n + 1 → IsLast xs (g
 last_at xs n is = (take n xs, sym (take_all (n + 1) xs (omega (arith, is))) ∙ take_more xs n 0 (omega (arith, is)))
 
 -- the view ends in a value of the writer: so that is the newest
-pub newest_by : (r : Recording) (table : List (Option Owner)) (v : View) (list : List ℕ) (writer : ℕ) → AreOwners r table
+pub newest_by : (r : Recording) (table : List (Option Owner)) (v : View) (list : List ℕ) (writer : ℕ)
+    → AreOwners r table
     → IsViewOf r v → list ≡ list_of r v.span → (length list ≡ 0 → ⊥)
     → ((o : Owner) × (owner_at table (get_or list (length list - 1) 0) ≡ Some o) × (o.txn ≡ writer))
     → (orders : Orders) (x : Explanation) → Explains r orders x → IsNewest r x v.key (x.start v.txn) writer
@@ -46,14 +48,16 @@ newest_by r table v list writer owners view is some (o, at, by) orders x e =
     let n : length list ≡ length list - 1 + 1 = omega (arith, some) in
     let last = last_at list (length list - 1) n in
     let sees = view_sees r orders x e v view in
-    let (u, newest, put, end) = seen_last r orders x e v.key (x.start v.txn) (list_of r v.span) (get_or list (length list - 1) 0) sees
+    let (u, newest, put, end) =
+    seen_last r orders x e v.key (x.start v.txn) (list_of r v.span) (get_or list (length list - 1) 0) sees
     (subst (λ q. IsLast q (get_or list (length list - 1) 0)) is last) in
     let same : u ≡ writer = sym (owner_is r table u v.key _ o owners put at) ∙ by in
     subst (λ q. IsNewest r x v.key (x.start v.txn) q) same newest
 
 -- the view is empty: so all writers commit later
 pub nothing_by : (r : Recording) (v : View) → IsViewOf r v → v.span.count ≡ 0
-    → (orders : Orders) (x : Explanation) → Explains r orders x → (w : ℕ) → IsWriter r x w v.key → x.start v.txn < x.commit w
+    → (orders : Orders) (x : Explanation) → Explains r orders x → (w : ℕ) → IsWriter r x w v.key
+    → x.start v.txn < x.commit w
 nothing_by r v view none orders x e w writer =
     let n : v.span.first + v.span.count - v.span.first ≡ 0 = omega (arith, none) in
     let empty : list_of r v.span ≡ [] = ap (λ q. take q (drop v.span.first r.elements.items)) n in
@@ -65,14 +69,16 @@ pub shown_by : (r : Recording) (table : List (Option Owner)) (v : View) (list : 
     → ((o : Owner) × (owner_at table (get_or list i 0) ≡ Some o) × (o.txn ≡ txn))
     → (orders : Orders) (x : Explanation) → Explains r orders x → IsTrue (x.committed txn)
 shown_by r table v list i txn owners view is lt (o, at, by) orders x e =
-    let there : Contains (list_of r v.span) (get_or list i 0) = subst (λ q. Contains q (get_or list i 0)) is (Contains-get_or list i 0 lt) in
+    let there : Contains (list_of r v.span) (get_or list i 0) =
+    subst (λ q. Contains q (get_or list i 0)) is (Contains-get_or list i 0 lt) in
     let (u, writer, put, before) = seen_put r orders x e v.key (x.start v.txn) (list_of r v.span) (get_or list i 0)
     (view_sees r orders x e v view) there in
     let same : u ≡ txn = sym (owner_is r table u v.key _ o owners put at) ∙ by in
     subst (λ q. IsTrue (x.committed q)) same writer.0
 
 -- the same, by the numbers of the transaction and the key
-pub newest_at : (r : Recording) (table : List (Option Owner)) (v : View) (list : List ℕ) (txn k writer : ℕ) → AreOwners r table
+pub newest_at : (r : Recording) (table : List (Option Owner)) (v : View) (list : List ℕ) (txn k writer : ℕ)
+    → AreOwners r table
     → IsViewOf r v → v.txn ≡ txn → v.key ≡ k → list ≡ list_of r v.span → (length list ≡ 0 → ⊥)
     → ((o : Owner) × (owner_at table (get_or list (length list - 1) 0) ≡ Some o) × (o.txn ≡ writer))
     → (orders : Orders) (x : Explanation) → Explains r orders x → IsNewest r x k (x.start txn) writer
@@ -90,17 +96,26 @@ nothing_at r v txn k view of_txn of_key none orders x e w writer =
     omega (arith, lt, s)
 
 -- a value of a view was seen
-pub saw_value : (r : Recording) (v : View) → IsViewOf r v → (list : List ℕ) → list ≡ list_of r v.span → (i : ℕ) → i < length list
+pub saw_value : (r : Recording) (v : View) → IsViewOf r v → (list : List ℕ) → list ≡ list_of r v.span → (i : ℕ)
+    → i < length list
     → SawValue r v.txn v.key (get_or list i 0)
 saw_value r v view list is i lt =
     (list_of r v.span, view.1, subst (λ q. Contains q (get_or list i 0)) is (Contains-get_or list i 0 lt))
 
 -- whom the table has for a value puts it
-pub owner_puts : (r : Recording) (table : List (Option Owner)) → AreOwners r table → (v : ℕ) (o : Owner) → owner_at table v ≡ Some o
+pub owner_puts : (r : Recording) (table : List (Option Owner)) → AreOwners r table → (v : ℕ) (o : Owner)
+    → owner_at table v ≡ Some o
     → IsPutBy r o.txn v
 owner_puts r table owners v o at =
-    let (lt, puts) = owners.only v o at in
-    ((op_at r o.txn o.place).key, (op_at r o.txn o.place, Contains-get_or (ops_of r o.txn) o.place no_op lt, refl, puts))
+    let (lt, puts) = owners.only v o at in (
+      (op_at r o.txn o.place).key,
+      (
+        op_at r o.txn o.place,
+        Contains-get_or (ops_of r o.txn) o.place no_op lt,
+        refl,
+        puts,
+      ),
+    )
 
 -- whom the table has for nobody nobody puts
 pub nobody_puts : (r : Recording) (table : List (Option Owner)) → AreOwners r table → (v : ℕ)

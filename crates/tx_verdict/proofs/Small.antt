@@ -19,22 +19,26 @@ use Rattle.tx_verdict.specs.Versions.{text_in, live_of, IsPlaced}
 use Rattle.tx_verdict.specs.Facts.{AreLists}
 use Rattle.tx_verdict.proofs.Texts.{left_cleared, left_first}
 
-pub puts_at : (ops : List Op) (i k v : ℕ) → i < length ops → (get_or ops i no_op).key ≡ k → Puts (get_or ops i no_op).act v
+pub puts_at : (ops : List Op) (i k v : ℕ) → i < length ops → (get_or ops i no_op).key ≡ k
+    → Puts (get_or ops i no_op).act v
     → (w : ℕ) × PutsIn ops k w
 puts_at ops i k v lt e p = (v, (get_or ops i no_op, Contains-get_or ops i no_op lt, e, p))
 
-pub outcome_is : (r : Recording) (n : ℕ) (t : Transaction) (o : Outcome) → n < txns_of r → t ≡ get_or r.transactions.items n t
+pub outcome_is : (r : Recording) (n : ℕ) (t : Transaction) (o : Outcome) → n < txns_of r
+    → t ≡ get_or r.transactions.items n t
     → t.outcome ≡ o → (transaction_at r n).outcome ≡ o
 outcome_is r n t o lt read is =
     sym (ap (λ (q : Transaction). q.outcome) (get_or_read r.transactions.items n t lt read no_transaction)) ∙ is
 
-pub live_is : (v : Versions) (n : ℕ) (b c : Bool) → n < length v.live.items → b ≡ get_or v.live.items n b → b ≡ c → live_of v n ≡ c
+pub live_is : (v : Versions) (n : ℕ) (b c : Bool) → n < length v.live.items → b ≡ get_or v.live.items n b → b ≡ c
+    → live_of v n ≡ c
 live_is v n b c lt read is = sym (get_or_read v.live.items n b lt read false) ∙ is
 
 pub left_anew : (texts text : List ℕ) (before span : Span) (e : Effect) (own : List ℕ) → text ≡ text_in texts span
     → (e.clears ≡ true) ⊎ (before.count ≡ 0) → drop 0 text ≡ own → own ≡ e.values.items
     → text_in texts span ≡ left_by e (text_in texts before)
-left_anew texts text before span e own is (inl clears) ends same = left_cleared texts text before span e is clears (ends ∙ same)
+left_anew texts text before span e own is (inl clears) ends same =
+    left_cleared texts text before span e is clears (ends ∙ same)
 left_anew texts text before span e own is (inr none) ends same = elim (cases_Bool e.clears) [
   | inl clears ↦ left_cleared texts text before span e is clears (ends ∙ same)
   | inr keeps ↦ left_first texts text before span e is keeps none (ends ∙ same)
@@ -56,7 +60,8 @@ pub by_place : {X : Type 0} (P : X → Type 0) (xs : List X) (d : X) → ((i : �
 by_place P xs d all x (i, lt, is) = subst P (get_or_default xs i d x lt ∙ is) (all i lt)
 
 -- a test that holds says more
-pub if_fits : {E : Type 0} (P Q : Type 0) (q : Result Bool E) → (P → Q) → IfOk q (λ b. IsTrue b → P) → IfOk q (λ b. IsTrue b → Q)
+pub if_fits : {E : Type 0} (P Q : Type 0) (q : Result Bool E) → (P → Q) → IfOk q (λ b. IsTrue b → P)
+    → IfOk q (λ b. IsTrue b → Q)
 if_fits P Q (Ok b) f h = λ is. f (h is)
 if_fits P Q (Err e) f h = h
 
@@ -64,7 +69,8 @@ same_act : (v : ℕ) → Append 0 ≡ Write v → ⊥
 same_act v e = (cc)
 
 -- where no operation of the recording writes, none of a transaction does
-pub lists_of : (r : Recording) → ((i v : ℕ) → i < length r.ops.items → (get_or r.ops.items i no_op).act ≡ Write v → ⊥) → AreLists r
+pub lists_of : (r : Recording) → ((i v : ℕ) → i < length r.ops.items → (get_or r.ops.items i no_op).act ≡ Write v → ⊥)
+    → AreLists r
 lists_of r none t p v is = elim (cases_lt p (length (ops_of r t))) [
   | inr past ↦ same_act v (sym (ap (λ (o : Op). o.act) (get_or_past (ops_of r t) p no_op past)) ∙ is)
   | inl lt ↦ (

@@ -26,7 +26,8 @@ module _ (r : Recording) (orders : Orders) (h : History) (key : ℕ → ℕ) (fo
   by_kind Ww t u q v e (has, more, from, to) is x so =
       let f = forced x so in
       let P : ℕ → Type 0 = λ z. IsWriter r x z (key q) × IsWriter r x u (key q) × (x.commit z ≤ x.start u) in
-      let Q : ℕ → Type 0 = λ z. IsWriter r x (h.writer q v) (key q) × IsWriter r x z (key q) × (x.commit (h.writer q v) ≤ x.start z) in
+      let Q : ℕ → Type 0 = λ z. IsWriter r x (h.writer q v) (key q) × IsWriter r x z (key q)
+      × (x.commit (h.writer q v) ≤ x.start z) in
       let R : Edge → Type 0 = λ z. IsEdgeOf r orders x z t u (Some (key q)) in
       subst R (sym is) (subst P from (subst Q to (f.writers q v has, f.writers q (v + 1) more, f.steps q v has more)))
   by_kind Wr t u q v e (reads, has, from) is x so =
@@ -50,7 +51,8 @@ module _ (r : Recording) (orders : Orders) (h : History) (key : ℕ → ℕ) (fo
       subst P (sym at) (by_kind kind t u q v e depends is x so)
 
 -- each of the dependencies of a cycle holds
-pub depends_all : (h : History) (nodes : List ℕ) (found list : List Dependency) → list ≡ found → AreDependencies h nodes found
+pub depends_all : (h : History) (nodes : List ℕ) (found list : List Dependency) → list ≡ found
+    → AreDependencies h nodes found
     → (d : Dependency) → Contains list d → Depends h d.kind d.from d.to d.key d.version
 depends_all h nodes found list is all d there =
     let (i, lt, at) = subst (λ q. Contains q d) is there in
@@ -62,7 +64,8 @@ pub if_step : (r : Recording) (orders : Orders) (step : Option CycleStep) → If
 if_step r orders step is s at = (let P : Option CycleStep → Type 0 = λ q. IfSome q (IsStep r orders) in subst P at is)
 
 -- steps, and one more
-pub steps_more : (r : Recording) (orders : Orders) (old new : List CycleStep) (step : Option CycleStep) → AreSteps r orders old
+pub steps_more : (r : Recording) (orders : Orders) (old new : List CycleStep) (step : Option CycleStep)
+    → AreSteps r orders old
     → ((s : CycleStep) → step ≡ Some s → IsStep r orders s)
     → ((s : CycleStep) → Contains new s → Contains old s ⊎ (step ≡ Some s)) → AreSteps r orders new
 steps_more r orders old new step all one added s there = elim (added s there) [

@@ -22,7 +22,8 @@ left_cleared texts text before span e is clears ends = sym is ∙ ends ∙ sym (
 pub left_first : (texts text : List ℕ) (before span : Span) (e : Effect) → text ≡ text_in texts span → e.clears ≡ false
     → before.count ≡ 0 → drop 0 text ≡ e.values.items → text_in texts span ≡ left_by e (text_in texts before)
 left_first texts text before span e is clears none ends =
-    sym is ∙ ends ∙ ap (λ q. q ++ e.values.items) (sym (none_in texts before none)) ∙ sym (appended e (text_in texts before) clears)
+    sym is ∙ ends ∙ ap (λ q. q ++ e.values.items) (sym (none_in texts before none))
+    ∙ sym (appended e (text_in texts before) clears)
 
 pub left_behind : (texts text : List ℕ) (before span : Span) (e : Effect) → text ≡ text_in texts span → e.clears ≡ false
     → before.first ≡ span.first → before.count ≤ span.count → drop before.count text ≡ e.values.items

@@ -21,7 +21,7 @@ use Rattle.tx_verdict.specs.Fits.{IsFit, last_by}
 use Rattle.tx_verdict.specs.Forced.{AreForced, AreKnown, IsChain, IsReadForced, key_of}
 use Rattle.tx_verdict.specs.Verdicts.{AreTimestampsOf, IsRefused}
 use Rattle.tx_verdict.proofs.Fitting.{explains_so}
-use Rattle.tx_clock.specs.Keeping.{KeepsPairs}
+use Rattle.tx_clock.specs.KeptOrder.{KeepsPairs}
 use Rattle.tx_verdict.specs.Pairs.{IsPair}
 use Rattle.tx_verdict.proofs.Forcing.{start_in, commit_in, assigned}
 use Rattle.tx_verdict.proofs.Moments.{tick_of, pair_after}
@@ -44,8 +44,10 @@ fit_of r views v enough ok fail placed seen keys = record {
   leaves = λ k i has. (let high = has.1 in
       let fit = keys k i (omega (arith, high)) in
       let back : i ≡ i + 1 - 1 = omega arith in
-      let P : ℕ → Type 0 = λ q. text_of v k (i + 1) ≡ after (ops_of r (slice_index (writers_of v.recorded k) q)) k (text_of v k i) in
-      let Q : ℕ → Type 0 = λ q. text_of v k (i + 1) ≡ after (ops_of r (slice_index (writers_of v.recorded k) i)) k (text_of v k q) in
+      let P : ℕ → Type 0 = λ q. text_of v k (i + 1) ≡ after (ops_of r (slice_index (writers_of v.recorded k) q)) k
+      (text_of v k i) in
+      let Q : ℕ → Type 0 = λ q. text_of v k (i + 1) ≡ after (ops_of r (slice_index (writers_of v.recorded k) i)) k
+      (text_of v k q) in
       subst P back (subst Q (sym back) fit.2));
   placed = λ t k w live put. elim (cases_lt t (txns_of r)) [
     | inl lt ↦ placed t k w lt live put
@@ -66,7 +68,8 @@ forced_of r orders v chains reads x e = record {
       let high = more.1 in
       let link = (chains k).1 (i - 1) (omega (arith, low, high)) orders x e in
       let next : i - 1 + 1 ≡ i + 1 - 1 = omega (arith, low) in
-      let P : ℕ → Type 0 = λ q. x.commit (slice_index (writers_of v.recorded k) (i - 1)) ≤ x.start (slice_index (writers_of v.recorded k) q) in
+      let P : ℕ → Type 0 = λ q. x.commit (slice_index (writers_of v.recorded k) (i - 1)) ≤ x.start
+      (slice_index (writers_of v.recorded k) q) in
       subst P next link);
   seen = λ p is has. ((reads p is).1 orders x e).0 has;
   none = λ p is none. ((reads p is).1 orders x e).1 none;
@@ -74,7 +77,8 @@ forced_of r orders v chains reads x e = record {
 }
 
 -- a history that has no timestamps, and holds under each explanation, refuses each
-pub refused_of : (r : Recording) (orders : Orders) (v : Versions) → AreForced r orders (history_of v.recorded) (key_of v)
+pub refused_of : (r : Recording) (orders : Orders) (v : Versions)
+    → AreForced r orders (history_of v.recorded) (key_of v)
     → AreKnown r v → ((p : After) → Contains v.recorded.after.items p → IsPair r orders v p)
     → ((start commit : ℕ → ℕ) → IsAssignment (history_of v.recorded) start commit → ⊥) → IsRefused r orders
 refused_of r orders v forced known pairs none x e =
@@ -83,14 +87,17 @@ refused_of r orders v forced known pairs none x e =
     (assigned r orders x e (history_of v.recorded) (key_of v) (forced x e) room (omega arith) (tick_of r x v)
     (λ p is. pair_after r orders x e v known room (omega arith) p (pairs p is)))
 
-pub timestamps_of : (r : Recording) (orders : Orders) (views : List View) (v : Versions) (starts commits : List ℕ) (t : Timestamps)
+pub timestamps_of : (r : Recording) (orders : Orders) (views : List View) (v : Versions) (starts commits : List ℕ)
+    (t : Timestamps)
     → t.committed.items ≡ v.live.items → t.starts.items ≡ starts → t.commits.items ≡ commits → AreViews r views
     → IsFit r views (history_of v.recorded) (live_of v) (text_of v)
     → IsAssignment (history_of v.recorded) (slice_index starts) (slice_index commits)
     → KeepsPairs (Precedes r orders) v.live.items starts commits → AreTimestampsOf r orders t
 timestamps_of r orders views v starts commits t live_is starts_is commits_is seen fit a keeps =
-    let left : ℕ → ℕ → List ℕ = λ u k. text_of v k (last_by ((history_of v.recorded).writer k) ((history_of v.recorded).count k) u) in
-    let so = explains_so r orders views (history_of v.recorded) (live_of v) (text_of v) (slice_index starts) (slice_index commits) seen fit a
+    let left : ℕ → ℕ → List ℕ =
+    λ u k. text_of v k (last_by ((history_of v.recorded).writer k) ((history_of v.recorded).count k) u) in
+    let so = explains_so r orders views (history_of v.recorded) (live_of v) (text_of v) (slice_index starts)
+    (slice_index commits) seen fit a
     keeps in
     let P : List Bool → Type 0 = λ z. Explains r orders record {
       committed = λ i. slice_index_or z i false;

@@ -25,7 +25,8 @@ use Rattle.tx_verdict.proofs.Prefixes.{agree}
 use Rattle.tx_verdict.proofs.Whole.{is_whole}
 
 -- what one transaction leaves has each value once
-pub own_distinct : (r : Recording) (table : List (Option Owner)) → AreOwners r table → (u k : ℕ) (f : Effect) → IsEffect (ops_of r u) k f
+pub own_distinct : (r : Recording) (table : List (Option Owner)) → AreOwners r table → (u k : ℕ) (f : Effect)
+    → IsEffect (ops_of r u) k f
     → IsDistinct f.values.items
 own_distinct r table owners u k f effect =
     let left : after (ops_of r u) k [] ≡ f.values.items = elim (cases_Bool f.clears) [
@@ -36,12 +37,15 @@ own_distinct r table owners u k f effect =
     (λ v there. absurd (let lt = there.1 in omega (arith, lt))))
 
 -- a list that does not begin with what is left in place of all
-pub torn_cleared : (xs : List ℕ) (f : Effect) (i : ℕ) → f.clears ≡ true → ((rest : List ℕ) → xs ≡ f.values.items ++ rest → ⊥) → IsTornBy xs f i
+pub torn_cleared : (xs : List ℕ) (f : Effect) (i : ℕ) → f.clears ≡ true
+    → ((rest : List ℕ) → xs ≡ f.values.items ++ rest → ⊥) → IsTornBy xs f i
 torn_cleared xs f i clears none front rest is low lt = none rest (is ∙ ap (λ q. q ++ rest) (cleared f front clears))
 
 -- where the value is in what was left
-within_own : (xs : List ℕ) (f : Effect) (i : ℕ) (front rest : List ℕ) → f.clears ≡ false → xs ≡ left_by f front ++ rest → length front ≤ i
-    → i < length (left_by f front) → (i - length front < length f.values.items) × (get_or f.values.items (i - length front) 0 ≡ get_or xs i 0)
+within_own : (xs : List ℕ) (f : Effect) (i : ℕ) (front rest : List ℕ) → f.clears ≡ false → xs ≡ left_by f front ++ rest
+    → length front ≤ i
+    → i < length (left_by f front) → (i - length front < length f.values.items)
+    × (get_or f.values.items (i - length front) 0 ≡ get_or xs i 0)
 within_own xs f i front rest keeps is low lt =
     let own = f.values.items in
     let left = appended f front keeps in
@@ -61,7 +65,8 @@ torn_other xs f i keeps none front rest is low lt =
 -- the value is the one at j of those that were left
 module _ (xs : List ℕ) (f : Effect) (i j : ℕ) (keeps : f.clears ≡ false) (distinct : IsDistinct f.values.items)
     (within : j < length f.values.items) (there : get_or f.values.items j 0 ≡ get_or xs i 0) where
-  place_is : (front rest : List ℕ) → xs ≡ left_by f front ++ rest → length front ≤ i → i < length (left_by f front) → length front + j ≡ i
+  place_is : (front rest : List ℕ) → xs ≡ left_by f front ++ rest → length front ≤ i → i < length (left_by f front)
+      → length front + j ≡ i
   place_is front rest is low lt =
       let (below, at) = within_own xs f i front rest keeps is low lt in
       let same = distinct (i - length front) j below within (at ∙ sym there) in
@@ -74,17 +79,20 @@ module _ (xs : List ℕ) (f : Effect) (i j : ℕ) (keeps : f.clears ≡ false) (
   torn_at none front rest is low lt =
       let at = place_is front rest is low lt in
       let own = f.values.items in
-      let whole : xs ≡ front ++ (own ++ rest) = is ∙ ap (λ q. q ++ rest) (appended f front keeps) ∙ append_assoc front own rest in
+      let whole : xs ≡ front ++ (own ++ rest) = is ∙ ap (λ q. q ++ rest) (appended f front keeps)
+      ∙ append_assoc front own rest in
       let n : length front ≡ i - j = omega (arith, at) in
       none rest (ap (λ q. drop (i - j) q) whole ∙ drop_at front (own ++ rest) (i - j) n)
 
 -- by an effect, by the operations
-pub torn_by : (r : Recording) (u k : ℕ) (f : Effect) (xs : List ℕ) (i : ℕ) → IsEffect (ops_of r u) k f → IsTornBy xs f i → IsTorn r u k xs i
+pub torn_by : (r : Recording) (u k : ℕ) (f : Effect) (xs : List ℕ) (i : ℕ) → IsEffect (ops_of r u) k f → IsTornBy xs f i
+    → IsTorn r u k xs i
 torn_by r u k f xs i effect torn front rest is low lt =
     let e = effect front in
     torn front rest (is ∙ ap (λ q. q ++ rest) e) low (subst (λ q. i < length q) e lt)
 
-pub fact_torn : (r : Recording) (table : List (Option Owner)) → AreOwners r table → (v : View) → IsViewOf r v → (list : List ℕ)
+pub fact_torn : (r : Recording) (table : List (Option Owner)) → AreOwners r table → (v : View) → IsViewOf r v
+    → (list : List ℕ)
     → list ≡ list_of r v.span → (i : ℕ) → i < length list → (o : Owner) → owner_at table (get_or list i 0) ≡ Some o
     → (f : Effect) → IsEffect (ops_of r o.txn) v.key f → IsTornBy list f i
     → IsWrong r record { rule = G1b; txn = v.txn; key = v.key; value = Some (get_or list i 0); by = Some o.txn }
@@ -96,12 +104,14 @@ fact_torn r table owners v view list is i lt o at f effect torn_list =
       λ orders x e.
           (let Q : List ℕ → Type 0 = λ q. Sees r x v.key (x.start v.txn) q in
           let sees = subst Q (sym is) (view_sees r orders x e v view) in
-          let (front, rest, parts, low, below) = is_whole r orders x e (put_once r table owners) v.key o.txn (get_or list i 0) put.0 put.1
+          let (front, rest, parts, low, below) =
+          is_whole r orders x e (put_once r table owners) v.key o.txn (get_or list i 0) put.0 put.1
           (x.start v.txn) i list sees lt refl in
           torn front rest parts low below),
     )
 
-pub fact_twice : (r : Recording) (table : List (Option Owner)) → AreOwners r table → (v : View) → IsViewOf r v → (list : List ℕ)
+pub fact_twice : (r : Recording) (table : List (Option Owner)) → AreOwners r table → (v : View) → IsViewOf r v
+    → (list : List ℕ)
     → list ≡ list_of r v.span → (i j : ℕ) → i < j → j < length list → get_or list i 0 ≡ get_or list j 0
     → IsWrong r record { rule = Duplicate; txn = v.txn; key = v.key; value = Some (get_or list j 0); by = None }
 fact_twice r table owners v view list is i j lt within same =
@@ -110,19 +120,38 @@ fact_twice r table owners v view list is i j lt within same =
       λ orders x e.
           (let Q : List ℕ → Type 0 = λ q. Sees r x v.key (x.start v.txn) q in
           let sees = subst Q (sym is) (view_sees r orders x e v view) in
-          let at = seen_distinct r orders x e (put_once r table owners) (once_each r table owners) v.key (x.start v.txn) list sees i j
+          let at = seen_distinct r orders x e (put_once r table owners) (once_each r table owners) v.key
+          (x.start v.txn) list sees i j
           (omega (arith, lt, within)) within same in
           omega (arith, at, lt)),
     )
 
-pub fact_orders : (r : Recording) → AreLists r → (v w : View) → IsViewOf r v → IsViewOf r w → v.key ≡ w.key → (xs ys : List ℕ)
-    → xs ≡ list_of r v.span → ys ≡ list_of r w.span → (i : ℕ) → i < length xs → i < length ys → (get_or xs i 0 ≡ get_or ys i 0 → ⊥)
-    → IsWrong r record { rule = IncompatibleOrder; txn = v.txn; key = v.key; value = Some (get_or xs i 0); by = Some w.txn }
+pub fact_orders : (r : Recording) → AreLists r → (v w : View) → IsViewOf r v → IsViewOf r w → v.key ≡ w.key
+    → (xs ys : List ℕ)
+    → xs ≡ list_of r v.span → ys ≡ list_of r w.span → (i : ℕ) → i < length xs → i < length ys
+    → (get_or xs i 0 ≡ get_or ys i 0 → ⊥)
+    → IsWrong r record {
+      rule = IncompatibleOrder;
+      txn = v.txn;
+      key = v.key;
+      value = Some (get_or xs i 0);
+      by = Some w.txn;
+    }
 fact_orders r lists v w a b same_key xs ys xs_are ys_are i lt also ne =
     let P : List ℕ → Type 0 = λ q. Saw r v.txn v.key q in
     let P' : List ℕ → Type 0 = λ q. Saw r w.txn w.key q in
     let R : ℕ → Type 0 = λ k. Saw r w.txn k ys in (
-      (xs, ys, i, subst P (sym xs_are) a.1, subst R (sym same_key) (subst P' (sym ys_are) b.1), lt, also, refl, λ q. ne (sym q)),
+      (
+        xs,
+        ys,
+        i,
+        subst P (sym xs_are) a.1,
+        subst R (sym same_key) (subst P' (sym ys_are) b.1),
+        lt,
+        also,
+        refl,
+        λ q. ne (sym q),
+      ),
       λ orders x e.
           (let Q : List ℕ → Type 0 = λ q. Sees r x v.key (x.start v.txn) q in
           let Q' : List ℕ → Type 0 = λ q. Sees r x w.key (x.start w.txn) q in

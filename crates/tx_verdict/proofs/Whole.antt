@@ -25,7 +25,8 @@ module _ (r : Recording) (orders : Orders) (x : Explanation) (e : Explains r ord
       other (once u w k m y (subst P is (puts (get_or values i 0) (Contains-get_or values i 0 lt))) put)
 
   -- all of it is what w left
-  by_itself : (front l : List ℕ) (p : ℕ) → l ≡ after (ops_of r w) k front → length front ≤ p → p < length l → IsWhole l p
+  by_itself : (front l : List ℕ) (p : ℕ) → l ≡ after (ops_of r w) k front → length front ≤ p → p < length l
+      → IsWhole l p
   by_itself front l p is low lt = (
     front,
     [],
@@ -34,7 +35,8 @@ module _ (r : Recording) (orders : Orders) (x : Explanation) (e : Explains r ord
     subst (λ q. p < length q) is lt,
   )
 
-  of_own : (p : ℕ) (l base : List ℕ) → Sees r x k (x.start w) base → IsTrue (x.committed w) → l ≡ after (ops_of r w) k base → p < length l
+  of_own : (p : ℕ) (l base : List ℕ) → Sees r x k (x.start w) base → IsTrue (x.committed w)
+      → l ≡ after (ops_of r w) k base → p < length l
       → get_or l p 0 ≡ y → IsWhole l p
   of_own p l base sees is_in is within there = elim (cases_lt p (length base)) [
     | inr high ↦ by_itself base l p is high within
@@ -44,7 +46,8 @@ module _ (r : Recording) (orders : Orders) (x : Explanation) (e : Explains r ord
           | inl all ↦ by_itself [] l p (is ∙ all base ∙ sym (all [])) (omega arith) within
           | inr more ↦ absurd (
               let whole = is ∙ more base in
-              let here : get_or base p 0 ≡ y = sym (get_or_append_left base s.values 0 p low) ∙ ap (λ z. get_or z p 0) (sym whole) ∙ there in
+              let here : get_or base p 0 ≡ y = sym (get_or_append_left base s.values 0 p low)
+              ∙ ap (λ z. get_or z p 0) (sym whole) ∙ there in
               let (u, writer, also, before) = seen_put r orders x e k (x.start w) base y sees
               (subst (λ v. Contains base v) here (Contains-get_or base p 0 low)) in
               let same : u ≡ w = once u w k m y also put in
@@ -85,7 +88,8 @@ module _ (r : Recording) (orders : Orders) (x : Explanation) (e : Explains r ord
                   let q = length-append base s.values in
                   elim (cases_lt p (length base)) [
                     | inl low ↦ (
-                        let (front, rest, parts, begins, ends) = whole_below n (x.start u) p base (omega (arith, lt, upto, above)) sees low
+                        let (front, rest, parts, begins, ends) =
+                        whole_below n (x.start u) p base (omega (arith, lt, upto, above)) sees low
                         (sym (get_or_append_left base s.values 0 p low) ∙ ap (λ z. get_or z p 0) (sym e) ∙ there) in (
                           front,
                           rest ++ s.values,
@@ -94,8 +98,10 @@ module _ (r : Recording) (orders : Orders) (x : Explanation) (e : Explains r ord
                           ends,
                         )
                         )
-                    | inr high ↦ absurd (not_of u s.values (p - length base) other s.put (omega (arith, m, q, high, within))
-                        (sym (get_or-append_right base s.values (length base) p 0 refl high) ∙ ap (λ z. get_or z p 0) (sym e) ∙ there))
+                    | inr high ↦ absurd (not_of u s.values (p - length base) other s.put
+                        (omega (arith, m, q, high, within))
+                        (sym (get_or-append_right base s.values (length base) p 0 refl high)
+                        ∙ ap (λ z. get_or z p 0) (sym e) ∙ there))
                   ]
                   )
             ]

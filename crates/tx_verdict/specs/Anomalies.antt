@@ -37,8 +37,8 @@ AreOfOneKey steps = (length steps ≡ 2) × ((step_at steps 0).key ≡ (step_at 
 abbrev pub IsFork : List CycleStep → Type 0
 IsFork steps = (skews_of steps ≡ 2) × (reads_of steps ≡ 2) × (length steps ≡ 4)
 
--- No anti-dependency, and no read; none, and a read; one, in two steps of one key; one, not so; two,
--- and two reads beside them; two or more, not so.
+-- No anti-dependency, and no read; none, and a read; one, in two steps of one key; one, not so;
+-- two, and two reads beside them; two or more, not so.
 abbrev pub IsNamed : List CycleStep → Anomaly → Type 0
 IsNamed steps G0 = (skews_of steps ≡ 0) × (reads_of steps ≡ 0)
 IsNamed steps G1c = (skews_of steps ≡ 0) × (1 ≤ reads_of steps)

@@ -5,7 +5,8 @@ use Rattle.tx_verdict.specs.declared.verdict.Cycle.{Cycle}
 use Rattle.tx_verdict.specs.Steps.{AreRound, AreSteps, Needs}
 use Rattle.tx_verdict.specs.Anomalies.{IsNamed}
 
--- its steps go round and hold under each explanation, need the order that is told, and have its name
+-- its steps go round and hold under each explanation, need the order that is told, and have its
+-- name
 abbrev pub IsCycleFor : Recording → Orders → Cycle → Type 0
 IsCycleFor r orders c = AreRound c.steps.items × AreSteps r orders c.steps.items × Needs c.steps.items c.beside
     × IsNamed c.steps.items c.anomaly

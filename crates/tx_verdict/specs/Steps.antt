@@ -40,7 +40,8 @@ step_at steps i = slice_index_or steps i record { from = 0; edge = Ww; key = Non
 
 -- at least one step, each of which leads to where the next begins, and the last to the first
 abbrev pub AreRound : List CycleStep → Type 0
-AreRound steps = (1 ≤ length steps) × ((i : ℕ) → i + 1 < length steps → (step_at steps i).to ≡ (step_at steps (i + 1)).from)
+AreRound steps = (1 ≤ length steps)
+    × ((i : ℕ) → i + 1 < length steps → (step_at steps i).to ≡ (step_at steps (i + 1)).from)
     × ((step_at steps (length steps - 1)).to ≡ (step_at steps 0).from)
 
 -- which order the steps need

@@ -8,7 +8,7 @@ use Rattle.tx_views.specs.declared.view.View.{View}
 use Rattle.tx_history.specs.declared.recorded.Read.{Read}
 use Rattle.tx_history.specs.Histories.{HasVersion}
 use Rattle.tx_history.specs.Records.{history_of, writers_of}
-use Rattle.tx_clock.specs.Keeping.{live_in}
+use Rattle.tx_clock.specs.KeptOrder.{live_in}
 use Rattle.tx_verdict.specs.declared.versions.Versions.{Versions}
 
 abbrev pub no_span : Span
@@ -35,7 +35,8 @@ IsVersionFit r v k t i = IsTrue (live_of v t) × ((w : ℕ) × IsPut r t k w)
     × (text_of v k i ≡ after (ops_of r t) k (text_of v k (i - 1)))
 
 abbrev pub IsKeyFit : Recording → Versions → ℕ → Type 0
-IsKeyFit r v k = (i : ℕ) → i < length (writers_of v.recorded k) → IsVersionFit r v k (slice_index (writers_of v.recorded k) i) (i + 1)
+IsKeyFit r v k = (i : ℕ) → i < length (writers_of v.recorded k)
+    → IsVersionFit r v k (slice_index (writers_of v.recorded k) i) (i + 1)
 
 -- t wrote a version of k
 abbrev pub IsPlaced : Versions → ℕ → ℕ → Type 0

@@ -34,7 +34,8 @@ pub fn timestamps(
     requires recording { IsRecording recording.now }
     requires views { AreViews recording.now views.now }
     requires history { IsRecorded versions.recorded }
-    requires assigned { IsAssignment (history_of versions.recorded) (slice_index starts.items) (slice_index commits.items) }
+    requires assigned { IsAssignment (history_of versions.recorded) (slice_index starts.items)
+        (slice_index commits.items) }
     ensures { IfOk result (λ found. IfSome found (AreTimestampsOf recording.now orders)) }
 {
     if !is_fit(alloc, recording, views, &versions)? {

@@ -91,7 +91,8 @@ fn is_shown(
 ) -> bool
     requires owners { AreOwners recording.now owners.now }
     requires views { (v : View) → Contains views.now v → IsViewOf recording.now v }
-    ensures { IsTrue result → (orders : Orders) (x : Explanation) → Explains recording.now orders x → IsTrue (x.committed txn) }
+    ensures { IsTrue result → (orders : Orders) (x : Explanation) → Explains recording.now orders x
+        → IsTrue (x.committed txn) }
 {
     if shown.view as usize >= views.len() {
         return false;
@@ -113,7 +114,8 @@ fn is_known(
 ) -> bool
     requires owners { AreOwners recording.now owners.now }
     requires views { (v : View) → Contains views.now v → IsViewOf recording.now v }
-    ensures { IsTrue result → (orders : Orders) (x : Explanation) → Explains recording.now orders x → IsTrue (x.committed txn) }
+    ensures { IsTrue result → (orders : Orders) (x : Explanation) → Explains recording.now orders x
+        → IsTrue (x.committed txn) }
 {
     if txn as usize >= recording.transactions.len() {
         return false;

@@ -101,7 +101,8 @@ fn is_tick(versions: &Versions, earlier: usize, later: usize) -> bool
 // Whether one that is known to have committed had ended by a moment.
 fn is_ended(recording: &Recording, versions: &Versions, txn: u32, moment: usize) -> bool
     requires { moment < length versions.now.times.items }
-    ensures { IsTrue result → (e : ℕ) × HasEnded recording.now txn e × (e ≤ slice_index versions.now.times.items moment) }
+    ensures { IsTrue result → (e : ℕ) × HasEnded recording.now txn e
+        × (e ≤ slice_index versions.now.times.items moment) }
 {
     match end_of(recording, txn) {
         Some(end) => end <= versions.times[moment],
@@ -112,7 +113,8 @@ fn is_ended(recording: &Recording, versions: &Versions, txn: u32, moment: usize)
 // Whether one began after a moment.
 fn is_begun(recording: &Recording, versions: &Versions, moment: usize, txn: u32) -> bool
     requires { moment < length versions.now.times.items }
-    ensures { IsTrue result → (b : ℕ) × HasBegun recording.now txn b × (slice_index versions.now.times.items moment < b) }
+    ensures { IsTrue result → (b : ℕ) × HasBegun recording.now txn b
+        × (slice_index versions.now.times.items moment < b) }
 {
     match begin_of(recording, txn) {
         Some(begin) => versions.times[moment] < begin,

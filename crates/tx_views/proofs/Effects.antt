@@ -34,7 +34,8 @@ pub reads_more : (os : List Op) (i : ℕ) (d : Op) (s : Span) → i < length os 
     → after (take p os) k xs ≡ xs
 reads_more os i d s lt is below p k xs le = elim (cases_eq p (i + 1)) [
   | inl same ↦ ap (λ q. after (take q os) k xs) same ∙ (elim (cases_eq (get_or os i d).key k) [
-    | inl at ↦ after_more_same os i k d xs lt at ∙ ap (λ a. act_on a (after (take i os) k xs)) is ∙ below i k xs (omega arith)
+    | inl at ↦ after_more_same os i k d xs lt at ∙ ap (λ a. act_on a (after (take i os) k xs)) is
+        ∙ below i k xs (omega arith)
     | inr other ↦ after_more_other os i k d xs lt other ∙ below i k xs (omega arith)
   ])
   | inr ne ↦ below p k xs (omega (arith, le, ne))

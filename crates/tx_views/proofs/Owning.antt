@@ -11,7 +11,7 @@ use Rattle.tx_recording.specs.declared.recording.Op.{Op}
 use Rattle.tx_recording.specs.declared.recording.Transaction.{Transaction}
 use Rattle.tx_recording.specs.Explanations.{Puts, op_at, IsPut, ArePutOnce}
 use Rattle.tx_views.specs.declared.owner.Owner.{Owner}
-use Rattle.tx_views.specs.Owners.{IsOwnerOf, IsEarly, Notes, Keeps, AreOwners, owner_at}
+use Rattle.tx_views.specs.Owners.{IsOwnerOf, IsEarly, Notes, KeepsOwners, AreOwners, owner_at}
 
 some_none : (o : Owner) → None ≡ Some o → ⊥
 some_none o e = grind (arith, e)
@@ -22,8 +22,9 @@ puts_one (Append x) v w p q = sym p ∙ q
 puts_one (Write x) v w p q = sym p ∙ q
 puts_one (Read s) v w p q = absurd p
 
-pub kept_set : (old table : List (Option Owner)) (value : ℕ) (o : Owner) → owner_at table value ≡ None → Keeps old table
-    → Keeps old (set table value (Some o))
+pub kept_set : (old table : List (Option Owner)) (value : ℕ) (o : Owner) → owner_at table value ≡ None
+    → KeepsOwners old table
+    → KeepsOwners old (set table value (Some o))
 kept_set old table value o none kept v q is = elim (cases_eq v value) [
   | inl same ↦ absurd (some_none q (sym none ∙ ap (λ z. owner_at table z) (sym same) ∙ kept v q is))
   | inr other ↦ get_or-set_other table value v (Some o) None other ∙ kept v q is
@@ -36,11 +37,15 @@ notes_set r table t place value within none put noted p v lt puts = elim (cases_
   | inl same ↦ (
       let P : ℕ → Type 0 = λ z. Puts (op_at r t z).act v in
       let e : v ≡ value = puts_one (op_at r t place).act v value (subst P same puts) put in
-      let Q : ℕ → Type 0 = λ z. owner_at (set table value (Some record { txn = t; place = place })) z ≡ Some record { txn = t; place = p } in
-      let R : ℕ → Type 0 = λ z. owner_at (set table value (Some record { txn = t; place = place })) value ≡ Some record { txn = t; place = z } in
-      subst Q (sym e) (subst R (sym same) (get_or-set_same table value (Some record { txn = t; place = place }) None within))
+      let Q : ℕ → Type 0 = λ z. owner_at (set table value (Some record { txn = t; place = place })) z
+      ≡ Some record { txn = t; place = p } in
+      let R : ℕ → Type 0 = λ z. owner_at (set table value (Some record { txn = t; place = place })) value
+      ≡ Some record { txn = t; place = z } in
+      subst Q (sym e) (subst R (sym same)
+      (get_or-set_same table value (Some record { txn = t; place = place }) None within))
       )
-  | inr ne ↦ kept_set table table value record { txn = t; place = place } none (λ z o is. is) v record { txn = t; place = p }
+  | inr ne ↦ kept_set table table value record { txn = t; place = place } none
+      (λ z o is. is) v record { txn = t; place = p }
       (noted p v (omega (arith, lt, ne)) puts)
 ]
 
@@ -52,7 +57,8 @@ notes_more r table t place none noted p v lt puts = elim (cases_eq p place) [
   | inr ne ↦ noted p v (omega (arith, lt, ne)) puts
 ]
 
-pub only_set : (r : Recording) (table : List (Option Owner)) (value : ℕ) (o : Owner) → value < length table → IsOwnerOf r value o
+pub only_set : (r : Recording) (table : List (Option Owner)) (value : ℕ) (o : Owner) → value < length table
+    → IsOwnerOf r value o
     → ((v : ℕ) (q : Owner) → owner_at table v ≡ Some q → IsOwnerOf r v q)
     → (v : ℕ) (q : Owner) → owner_at (set table value (Some o)) v ≡ Some q → IsOwnerOf r v q
 only_set r table value o within owns only v q is = elim (cases_eq v value) [
@@ -68,7 +74,8 @@ only_set r table value o within owns only v q is = elim (cases_eq v value) [
 
 -- of n + 1 transactions, where the table keeps what it had of the first n
 pub all_more : (r : Recording) (old new : List (Option Owner)) (n : ℕ)
-    → ((t : ℕ) → t < n → Notes r old t (length (ops_of r t))) → Keeps old new → Notes r new n (length (ops_of r n))
+    → ((t : ℕ) → t < n → Notes r old t (length (ops_of r t))) → KeepsOwners old new
+    → Notes r new n (length (ops_of r n))
     → (t : ℕ) → t < n + 1 → Notes r new t (length (ops_of r t))
 all_more r old new n all kept last t lt = elim (cases_eq t n) [
   | inl same ↦ (let P : ℕ → Type 0 = λ z. Notes r new z (length (ops_of r z)) in subst P (sym same) last)
@@ -89,7 +96,8 @@ early_end t place o (inr (same, lt)) = omega (arith, same)
 
 pub early_set : (table : List (Option Owner)) (t place value : ℕ) → value < length table
     → ((v : ℕ) (o : Owner) → owner_at table v ≡ Some o → IsEarly t place o)
-    → (v : ℕ) (o : Owner) → owner_at (set table value (Some record { txn = t; place = place })) v ≡ Some o → IsEarly t (place + 1) o
+    → (v : ℕ) (o : Owner) → owner_at (set table value (Some record { txn = t; place = place })) v ≡ Some o
+    → IsEarly t (place + 1) o
 early_set table t place value within early v o is = elim (cases_eq v value) [
   | inl same ↦ (
       let P : ℕ → Type 0 = λ z. owner_at (set table value (Some record { txn = t; place = place })) z ≡ Some o in
@@ -116,7 +124,8 @@ op_is r t p is lt =
     All-get_or (IsOpOf r) (ops_of r t) p no_op lt
     (All-take (IsOpOf r) (upto - first) (drop first r.ops.items) (All-drop (IsOpOf r) first r.ops.items is.ops))
 
-pub value_below : (r : Recording) (t p v : ℕ) → IsRecording r → p < length (ops_of r t) → Puts (op_at r t p).act v → v < r.values
+pub value_below : (r : Recording) (t p v : ℕ) → IsRecording r → p < length (ops_of r t) → Puts (op_at r t p).act v
+    → v < r.values
 value_below r t p v is lt puts = act_below r (op_at r t p).act v (op_is r t p is lt).1 puts
 
 -- there are no operations past the last transaction
@@ -124,7 +133,8 @@ one_of : (r : Recording) (t p : ℕ) → p < length (ops_of r t) → t < txns_of
 one_of r t p lt = elim (cases_lt t (txns_of r)) [
   | inl below ↦ below
   | inr past ↦ absurd (
-      let e = ap (λ (q : Transaction). length (slice_range r.ops.items q.first q.upto)) (get_or_past r.transactions.items t no_transaction past) in
+      let e = ap (λ (q : Transaction). length (slice_range r.ops.items q.first q.upto))
+      (get_or_past r.transactions.items t no_transaction past) in
       omega (arith, lt, e)
       )
 ]
@@ -146,7 +156,8 @@ put_once r table owners t u k l v a b =
     ap (λ (o : Owner). o.txn) same
 
 -- an operation among those of a transaction
-pub own_op : (r : Recording) (ops : List Op) (t p v : ℕ) → ops ≡ ops_of r t → p < length ops → Puts (get_or ops p no_op).act v
+pub own_op : (r : Recording) (ops : List Op) (t p v : ℕ) → ops ≡ ops_of r t → p < length ops
+    → Puts (get_or ops p no_op).act v
     → (p < length (ops_of r t)) × Puts (op_at r t p).act v
 own_op r ops t p v is lt puts =
     let P : List Op → Type 0 = λ q. (p < length q) × Puts (get_or q p no_op).act v in

@@ -39,7 +39,8 @@ long r s within =
     omega (arith, n, m, within)
 
 -- it ends in what was put, behind what was there
-pub base_is : (r : Recording) (s : Span) (own : List ℕ) (cut : ℕ) (list : List ℕ) → list ≡ list_of r s → s.first + s.count ≤ length r.elements.items
+pub base_is : (r : Recording) (s : Span) (own : List ℕ) (cut : ℕ) (list : List ℕ) → list ≡ list_of r s
+    → s.first + s.count ≤ length r.elements.items
     → length own ≤ length list → cut ≡ length list - length own → drop cut list ≡ own
     → (xs : List ℕ) → (list_of r s ≡ xs ++ own) ↔ (xs ≡ list_of r record { first = s.first; count = cut })
 base_is r s own cut list is within le at ends xs =
@@ -48,13 +49,15 @@ base_is r s own cut list is within le at ends xs =
     let small : cut ≤ s.count = omega (arith, at, n, m) in
     let f = front r s cut small within in
     let whole : list_of r s ≡ take cut (list_of r s) ++ own =
-    sym (take-append-drop cut (list_of r s)) ∙ ap (λ q. take cut (list_of r s) ++ q) (ap (λ q. drop cut q) (sym is) ∙ ends) in (
+    sym (take-append-drop cut (list_of r s)) ∙ ap (λ q. take cut (list_of r s) ++ q) (ap (λ q. drop cut q) (sym is)
+    ∙ ends) in (
       λ e. append_cancel_right xs (take cut (list_of r s)) own (sym e ∙ whole) ∙ sym f,
       λ e. whole ∙ ap (λ q. q ++ own) (sym f ∙ sym e),
     )
 
 -- it does not end in what was put
-pub not_behind : (own list xs : List ℕ) (cut : ℕ) → cut ≡ length list - length own → (drop cut list ≡ own → ⊥) → list ≡ xs ++ own → ⊥
+pub not_behind : (own list xs : List ℕ) (cut : ℕ) → cut ≡ length list - length own → (drop cut list ≡ own → ⊥)
+    → list ≡ xs ++ own → ⊥
 not_behind own list xs cut at ne e =
     let n = ap length e in
     let m = length-append xs own in
@@ -75,7 +78,8 @@ seen_same r os more k s Own same is = λ xs. is xs ∙ sym (same xs)
 seen_same r os more k s Wrong same is = λ xs e. is xs (e ∙ same xs)
 
 -- answered by more views
-pub answered_more : (r : Recording) (views more : List View) (t p : ℕ) → ((v : View) → Contains views v → Contains more v)
+pub answered_more : (r : Recording) (views more : List View) (t p : ℕ)
+    → ((v : View) → Contains views v → Contains more v)
     → IsAnswered r views t p → IsAnswered r more t p
 answered_more r views more t p kept answered s is = elim (answered s is) [
   | inl own ↦ inl own
@@ -106,13 +110,15 @@ answered_own r views t p span at own s is =
     let P : Span → Type 0 = λ q. (xs : List ℕ) → list_of r q ≡ after (take p (ops_of r t)) (op_at r t p).key xs in
     inl (subst P e own)
 
-pub view_by : (r : Recording) (t p : ℕ) (span base : Span) → IsReadAt r t p span → base.first + base.count ≤ length r.elements.items
+pub view_by : (r : Recording) (t p : ℕ) (span base : Span) → IsReadAt r t p span
+    → base.first + base.count ≤ length r.elements.items
     → ((xs : List ℕ) → (list_of r span ≡ after (take p (ops_of r t)) (op_at r t p).key xs) ↔ (xs ≡ list_of r base))
     → IsViewOf r record { txn = t; key = (op_at r t p).key; span = base }
 view_by r t p span base at within iff = (within, (p, span, at, refl, iff))
 
 -- each of the old views and one more
-pub only_push : (r : Recording) (views : List View) (v : View) → IsViewOf r v → ((w : View) → Contains views w → IsViewOf r w)
+pub only_push : (r : Recording) (views : List View) (v : View) → IsViewOf r v
+    → ((w : View) → Contains views w → IsViewOf r w)
     → (w : View) → Contains (views ++ v ∷ []) w → IsViewOf r w
 only_push r views v is only w c = elim (Contains-push_cases views v w c) [
   | inl old ↦ only w old
@@ -146,7 +152,11 @@ base_so r os k s e own list cut effect clears own_is is within le at ends =
     let same : (xs : List ℕ) → after os k xs ≡ xs ++ own =
     λ xs. effect xs ∙ appended e xs clears ∙ ap (λ z. xs ++ z) (sym own_is) in (
       omega (arith, within, at, n, m),
-      λ xs. (let both = base_is r s own cut list is within le at ends xs in (λ q. both.0 (q ∙ same xs), λ q. both.1 q ∙ sym (same xs))),
+      λ xs. (let both = base_is r s own cut list is within le at ends xs in (
+        λ q. both.0 (q ∙ same xs),
+        λ q. both.1 q
+            ∙ sym (same xs),
+      )),
     )
 
 -- one view more, by a read
@@ -176,4 +186,5 @@ pub not_ok : (r : Recording) (views : List View) (n : ℕ) (t : Transaction) →
     → t ≡ get_or r.transactions.items n t → (t.outcome ≡ Committed → ⊥)
     → (p : ℕ) → (transaction_at r n).outcome ≡ Committed → p < length (ops_of r n) → IsAnswered r views n p
 not_ok r views n t lt read other p ok in_ops =
-    absurd (other (ap (λ (q : Transaction). q.outcome) (get_or_read r.transactions.items n t lt read no_transaction) ∙ ok))
+    absurd (other (ap (λ (q : Transaction). q.outcome) (get_or_read r.transactions.items n t lt read no_transaction)
+    ∙ ok))

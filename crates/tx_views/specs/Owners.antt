@@ -35,8 +35,8 @@ IsOwned r (Once table) = AreOwners r table.items
 IsOwned r (PutTwice t) = IsTwice r t
 
 -- what the table has it keeps
-abbrev pub Keeps : List (Option Owner) → List (Option Owner) → Type 0
-Keeps old new = (v : ℕ) (o : Owner) → owner_at old v ≡ Some o → owner_at new v ≡ Some o
+abbrev pub KeepsOwners : List (Option Owner) → List (Option Owner) → Type 0
+KeepsOwners old new = (v : ℕ) (o : Owner) → owner_at old v ≡ Some o → owner_at new v ≡ Some o
 
 -- before the operation of t at place
 abbrev pub IsEarly : ℕ → ℕ → Owner → Type 0

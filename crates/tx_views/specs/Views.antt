@@ -56,7 +56,8 @@ IsAnswered r views t p = (span : Span) → (op_at r t p).act ≡ Read span
 -- these views are what the reads of the recording say, and all of it
 pub record AreViews (r : Recording) (views : List View) : Type 0 where
   pub only : (v : View) → Contains views v → IsViewOf r v
-  pub all : (t p : ℕ) → t < txns_of r → (transaction_at r t).outcome ≡ Ok → p < length (ops_of r t) → IsAnswered r views t p
+  pub all : (t p : ℕ) → t < txns_of r → (transaction_at r t).outcome ≡ Ok → p < length (ops_of r t)
+      → IsAnswered r views t p
 
 -- the read of that transaction at that place is nothing that it can have seen
 abbrev pub IsInternal : Recording → ℕ → ℕ → Type 0

@@ -2,7 +2,7 @@
 ghost use Rattle.std.specs.Prelude.{◌≡◌, ℕ, ◌+◌, ◌<◌, length, None, Some, IfOk, IfSome, IfNone};
 ghost use Rattle.tx_recording.specs.Explanations.{Puts};
 ghost use Rattle.tx_recording.specs.Recordings.{IsRecording, txns_of, ops_of};
-ghost use Rattle.tx_views.specs.Owners.{AreOwners, IsOwned, IsTwice, IsOwnerOf, Keeps, Notes, owner_at};
+ghost use Rattle.tx_views.specs.Owners.{AreOwners, IsOwned, IsTwice, IsOwnerOf, KeepsOwners, Notes, owner_at};
 
 use std::alloc::{AllocError, Global};
 use tx_recording::{Act, Recording};
@@ -52,9 +52,10 @@ fn note(table: &mut Vec<Option<Owner>>, recording: &Recording, txn: u32) -> Opti
     requires early { (v : ℕ) (o : Owner) → owner_at table.old.items v ≡ Some o → o.txn < txn }
     ensures each { IfNone result (length table.new.items ≡ length table.old.items) }
     ensures early { IfNone result ((v : ℕ) (o : Owner) → owner_at table.new.items v ≡ Some o → o.txn < txn + 1) }
-    ensures kept { IfNone result (Keeps table.old.items table.new.items) }
+    ensures kept { IfNone result (KeepsOwners table.old.items table.new.items) }
     ensures noted { IfNone result (Notes recording.now table.new.items txn (length (ops_of recording.now txn))) }
-    ensures only { IfNone result ((v : ℕ) (o : Owner) → owner_at table.new.items v ≡ Some o → IsOwnerOf recording.now v o) }
+    ensures only { IfNone result ((v : ℕ) (o : Owner) → owner_at table.new.items v ≡ Some o
+        → IsOwnerOf recording.now v o) }
     ensures twice { IfSome result (IsTwice recording.now) }
 {
     let ops = recording.ops_of(txn as usize);

@@ -1,5 +1,5 @@
 //! What is known of a session's transaction, what it learns of others, and how it ends.
-ghost use Rattle.std.specs.Prelude.{◌≡◌, Some, None, IfOk, IfErr, OnOk, OnErr, IfSome, true, option_map, is_some};
+ghost use Rattle.std.specs.Prelude.{◌≡◌, Some, None, IfOk, IfErr, OnOk, OnErr, IfSome, true, option_map};
 ghost use Rattle.tx_types.specs.declared.fault.Fault.TheVariants as fault;
 ghost use Rattle.tx_core.specs.declared.event.Event.TheVariants.{Answered, Stopped};
 ghost use Rattle.tx_core.specs.Histories.{declared};
@@ -9,7 +9,7 @@ ghost use Rattle.tx_core.specs.Worlds.{IsWorldRun};
 ghost use Rattle.tx_transaction.specs.Sessions.{notes_one, with_passed, finish_of};
 ghost use Rattle.tx_client.specs.Statuses.{lies_above};
 ghost use Rattle.tx_client.specs.Calls.{HasHeard, Records, IsDecidedSo};
-ghost use Rattle.tx_client.specs.Facts.{standing};
+ghost use Rattle.tx_client.specs.Facts.{WasMet, standing};
 ghost use Rattle.tx_client.specs.Order.{CommitsAbove};
 
 use super::Session;
@@ -56,13 +56,6 @@ fn record_stopped<J: JournalId>(seat: &mut Seat<J>)
 }
 
 impl<J: JournalId> Session<J> {
-    // The outcome, where there is one.
-    fn outcome(&self) -> Option<Outcome>
-        ensures { result ≡ finish_of self.now.state }
-    {
-        self.transaction.outcome()
-    }
-
     /// What is known of its transaction's fate, with what proves it.
     pub fn decision(&mut self) -> Option<Decision<J>>
         ensures same { self.new ≡ self.old }
@@ -87,16 +80,10 @@ impl<J: JournalId> Session<J> {
         let _ = &self.transaction;
     }
 
-    /// Whether a lock stood in its way.
-    pub fn has_met(&self) -> bool
-        ensures { result ≡ is_some self.now.state.met }
-    {
-        self.transaction.has_met()
-    }
-
-    /// The lock that last stood in its way, if one did: what its seat has seen told of it.
+    /// The lock that last stood in its way, if one did: an answer that its seat has seen said so.
     pub fn met_lock(&self) -> Option<&LockInfo>
         ensures lock { option_map (λ info. info.now) result ≡ self.now.state.met }
+        ensures met { IfSome self.now.state.met (λ info. WasMet self.now.seat.events info) }
         ensures told { IfSome self.now.state.met (λ info. WasToldOf self.now.seat.events info) }
     {
         self.transaction.met_lock()
@@ -159,7 +146,7 @@ impl<J: JournalId> Session<J> {
         ensures in_order { IfOk result (λ r. CommitsAbove self.seat.events self.state.placed r.0) }
         ensures open_yet { IfErr result (λ s. (finish_of self.state ≡ None) × (s ≡ self)) }
     {
-        match self.outcome() {
+        match self.transaction.outcome() {
             None => Err(self),
             Some(outcome) => {
                 let start = self.transaction.start();

@@ -9,8 +9,8 @@ ghost use Rattle.tx_journal.specs.Senders.{IsHeld, IsSender};
 ghost use Rattle.tx_client.specs.Rooms.{HasRoom, IsScan, HasUpto};
 ghost use Rattle.tx_client.specs.Walks.{Sends, look_walk, get_walk, part_walk, look_part, part_by, scan_walk, part_of, low_of, high_of, enough, lesser, greater};
 
-use crate::asking::Answering;
 use crate::part::ScanPart;
+use crate::requests::Answering;
 use crate::session::Session;
 use std::alloc::Global;
 use std::convert::TryFrom;

@@ -215,7 +215,8 @@ module _ (w : View) (within : Key → Bool) (safe : ℕ) where
               (and_parts (commit_is is_put ((w.cells q).write e)) (none_above (w.cells q).write e (safe - e)) y).1 in
               elim ((i.keys q).kept.complete u d m end does) [
                 | inl z ↦ (let same : z.rec.mutation ≡ m =
-                    one_does w.declared z.rec.start u q z.rec.mutation m z.own ((i.keys q).records.does d z.rec z.stands)
+                    one_does w.declared z.rec.start u q z.rec.mutation m z.own
+                    ((i.keys q).records.does d z.rec z.stands)
                     does in
                     cc (
                       none_in (w.cells q).write e (safe - e) d none above (omega (arith, upto, low)),
@@ -225,7 +226,8 @@ module _ (w : View) (within : Key → Bool) (safe : ℕ) where
                     ))
                 | inr rest ↦ elim rest [
                   | inl z ↦ omega (arith, free q z.lock inside z.stands, z.own, (i.commits u d end).range.0, upto)
-                  | inr gone ↦ (i.keys q).records.newest e rec x v (omega (arith, gone.below, above)) u d m end does seen
+                  | inr gone ↦ (i.keys q).records.newest e rec x v (omega (arith, gone.below, above)) u d m end does
+                      seen
                       above (omega (arith, gone.below))
                 ]
               ])

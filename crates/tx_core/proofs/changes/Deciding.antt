@@ -236,7 +236,8 @@ module _ (w : View) (t c : ℕ) (i : Inv w) (may : CanDecide w t c) where
                     | inr rest ↦ elim rest [
                       | inl y ↦ inr (inl y)
                       | inr y ↦ inr (inr (gone_by w.decided (deciding w t c).decided w.declared w.declared k d
-                          (w.collected k) (w.collected k) m (λ q at e. still_decided q (Committed at) e) (λ q n does. does)
+                          (w.collected k) (w.collected k) m (λ q at e. still_decided q (Committed at) e)
+                          (λ q n does. does)
                           (omega arith) y))
                     ]
                   ]

@@ -227,13 +227,14 @@ module _ (w : View) (k : Key) (lock : Lock) (i : Inv w) (may : MayLock w k lock)
               && is_first (set_of (w.declared lock.start)) k) lock.min (w.shown lock.start)
               (rw (nat_same lock.start, f) refl));
         };
-    alone = λ l e. subst (IsAlone w.declared w.decided k (w.collected k) (w.cells k).write) (some_same lock l e) record {
-      above = λ u d m end does other. may.above u d m end does;
-      unwritten = λ c rec x same. may.uncommitted c
-          (subst (λ n. IsCommitted w.decided n c) same (old.records.committed c rec x));
-      fresh = may.fresh;
-      unseen = may.unseen;
-    };
+    alone = λ l e. subst (IsAlone w.declared w.decided k (w.collected k) (w.cells k).write)
+        (some_same lock l e) record {
+          above = λ u d m end does other. may.above u d m end does;
+          unwritten = λ c rec x same. may.uncommitted c
+              (subst (λ n. IsCommitted w.decided n c) same (old.records.committed c rec x));
+          fresh = may.fresh;
+          unseen = may.unseen;
+        };
     records = old.records;
     kept = record {
       complete = λ u d m end does.
@@ -397,7 +398,8 @@ no_value w k r i fresh free none u d v end does low =
               rec = x.rec;
               stands = x.stands;
               puts =
-                  one_does w.declared x.rec.start u k x.rec.mutation (Put v) x.own ((i.keys k).records.does d x.rec x.stands)
+                  one_does w.declared x.rec.start u k x.rec.mutation (Put v) x.own
+                  ((i.keys k).records.does d x.rec x.stands)
                   does;
               upto = low;
               newest = bare;

@@ -214,7 +214,8 @@ stays_locked o t lock e other =
 -- it is aborted
 pub inv_roll_back : (w : View) (k : Key) (t : ℕ) → Inv w → IsAborted w.decided t → Inv (rolling_back w k t)
 inv_roll_back w k t i gone =
-    inv_rolled w k t (cond (is_own (w.cells k).lock t) None (w.cells k).lock) i gone (λ old e. (was_locked (w.cells k).lock t old e).0)
+    inv_rolled w k t (cond (is_own (w.cells k).lock t) None (w.cells k).lock) i gone
+    (λ old e. (was_locked (w.cells k).lock t old e).0)
     (λ old e other. stays_locked (w.cells k).lock t old e other)
 
 -- ---- leaving a rollback, without touching locks

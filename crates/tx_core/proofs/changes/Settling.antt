@@ -136,7 +136,8 @@ module _ (w : View) (k : Key) (lock : Lock) (c : ℕ) (i : Inv w) (stands : (w.c
         records = record {
           committed = λ d rec e. elim (was_record d rec e) [
             | inl x ↦
-                subst (λ (r : CommitRecord). IsCommitted w.decided r.start d) x.1 (end ∙ ap (λ n. Done (Committed n)) x.0)
+                subst (λ (r : CommitRecord). IsCommitted w.decided r.start d) x.1
+                (end ∙ ap (λ n. Done (Committed n)) x.0)
             | inr x ↦ old.records.committed d rec x
           ];
           does = λ d rec e. elim (was_record d rec e) [

@@ -120,7 +120,14 @@ full = Took raise ∷ Drawn 1 6 ∷ Took roll ∷ second
 first_run : IsWorldRun [] first
 first_run = (
   (((tt, omega arith), (λ e. (cc (e)), refl)), omega arith),
-  record { begun = refl; unanswered = refl; once = refl; some = λ e. (cc (e)); distinct = (refl, tt); drew = inl (refl, refl, refl) },
+  record {
+    begun = refl;
+    unanswered = refl;
+    once = refl;
+    some = λ e. (cc (e));
+    distinct = (refl, tt);
+    drew = inl (refl, refl, refl);
+  },
 )
 
 locks : MayTake [] first lock
@@ -173,7 +180,14 @@ commits = record {
 second_run : IsWorldRun [] second
 second_run = (
   ((((((first_run, locks), omega arith), commits), omega arith), (λ e. (cc (e)), refl)), omega arith),
-  record { begun = refl; unanswered = refl; once = refl; some = λ e. (cc (e)); distinct = (refl, tt); drew = inl (refl, refl, refl) },
+  record {
+    begun = refl;
+    unanswered = refl;
+    once = refl;
+    some = λ e. (cc (e));
+    distinct = (refl, tt);
+    drew = inl (refl, refl, refl);
+  },
 )
 
 -- the start in a record, if it is a commit's

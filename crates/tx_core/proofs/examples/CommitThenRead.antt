@@ -75,7 +75,14 @@ committed = Drawn 2 4 ∷ Answered 1 (outcome.Committed 3) ∷ Took commit_put �
 puts_run : IsWorldRun [] puts
 puts_run = (
   (((tt, omega arith), (λ e. (cc (e)), refl)), omega arith),
-  record { begun = refl; unanswered = refl; once = refl; some = λ e. (cc (e)); distinct = (refl, tt); drew = inl (refl, refl, refl) },
+  record {
+    begun = refl;
+    unanswered = refl;
+    once = refl;
+    some = λ e. (cc (e));
+    distinct = (refl, tt);
+    drew = inl (refl, refl, refl);
+  },
 )
 
 put_prewrites : MayTake [] puts prewrite_put

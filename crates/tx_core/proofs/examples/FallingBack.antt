@@ -72,7 +72,14 @@ begun_ok = (
   (
     (
       (((tt, omega arith), (λ e. (cc (e)), refl)), omega arith),
-      record { begun = refl; unanswered = refl; once = refl; some = λ e. (cc (e)); distinct = (refl, tt); drew = inl (refl, refl, refl) },
+      record {
+        begun = refl;
+        unanswered = refl;
+        once = refl;
+        some = λ e. (cc (e));
+        distinct = (refl, tt);
+        drew = inl (refl, refl, refl);
+      },
     ),
     omega arith,
   ),

@@ -95,7 +95,14 @@ declares_run = (
       (
         (
           (((tt, omega arith), (λ e. (cc (e)), refl)), omega arith),
-          record { begun = refl; unanswered = refl; once = refl; some = λ e. (cc (e)); distinct = (refl, tt); drew = inl (refl, refl, refl) },
+          record {
+            begun = refl;
+            unanswered = refl;
+            once = refl;
+            some = λ e. (cc (e));
+            distinct = (refl, tt);
+            drew = inl (refl, refl, refl);
+          },
         ),
         omega arith,
       ),
@@ -103,7 +110,14 @@ declares_run = (
     ),
     omega arith,
   ),
-  record { begun = refl; unanswered = refl; once = refl; some = λ e. (cc (e)); distinct = (refl, tt); drew = inl (refl, refl, refl) },
+  record {
+    begun = refl;
+    unanswered = refl;
+    once = refl;
+    some = λ e. (cc (e));
+    distinct = (refl, tt);
+    drew = inl (refl, refl, refl);
+  },
 )
 
 inserted : MayTake [] declares insert

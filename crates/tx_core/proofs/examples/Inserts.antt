@@ -122,7 +122,8 @@ has_value = (
     stands = refl;
     puts = refl;
     upto = omega arith;
-    newest = λ c rec e seen low high. (let below = inserted_below 4 (omega arith) c rec e in omega (arith, low, below.0));
+    newest = λ c rec e seen low high. (let below =
+        inserted_below 4 (omega arith) c rec e in omega (arith, low, below.0));
   },
 )
 
@@ -185,7 +186,8 @@ reinserted_run = (
   (
     (
       begins_run 7 (Insert x) deleted deleted_run (omega arith) refl refl refl,
-      locks (begins 7 (Insert x) deleted) 7 (Insert x) refl refl refl refl deleted_below refl (λ fresh. no_value fresh.1),
+      locks (begins 7 (Insert x) deleted) 7 (Insert x) refl refl refl refl deleted_below refl
+          (λ fresh. no_value fresh.1),
     ),
     omega arith,
   ),

@@ -102,7 +102,14 @@ marked_run = Took lock_second ∷ Took commit_first ∷ Took roll_second ∷ bot
 first_ok : IsWorldRun [] first_declared
 first_ok = (
   (((tt, omega arith), (λ e. (cc (e)), refl)), omega arith),
-  record { begun = refl; unanswered = refl; once = refl; some = λ e. (cc (e)); distinct = (refl, tt); drew = inl (refl, refl, refl) },
+  record {
+    begun = refl;
+    unanswered = refl;
+    once = refl;
+    some = λ e. (cc (e));
+    distinct = (refl, tt);
+    drew = inl (refl, refl, refl);
+  },
 )
 
 locks_first : MayTake [] first_declared lock_first
@@ -149,7 +156,14 @@ locks_first = record {
 pub both_ok : IsWorldRun [] both_declared
 both_ok = (
   ((((first_ok, locks_first), omega arith), (λ e. (cc (e)), refl)), omega arith),
-  record { begun = refl; unanswered = refl; once = refl; some = λ e. (cc (e)); distinct = (refl, tt); drew = inl (refl, refl, refl) },
+  record {
+    begun = refl;
+    unanswered = refl;
+    once = refl;
+    some = λ e. (cc (e));
+    distinct = (refl, tt);
+    drew = inl (refl, refl, refl);
+  },
 )
 
 pub rolls_second : MayTake [] both_declared roll_second

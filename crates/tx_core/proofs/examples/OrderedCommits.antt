@@ -90,7 +90,14 @@ answers_first = Declared second_set ∷ Drawn 2 5 ∷ Answered 1 (outcome.Commit
 begins_run : IsWorldRun [] begins
 begins_run = (
   (((((tt, omega arith), (λ e. (cc (e)), refl)), omega arith), (λ e. (cc (e)), refl)), omega arith),
-  record { begun = refl; unanswered = refl; once = refl; some = λ e. (cc (e)); distinct = (refl, tt); drew = inl (refl, refl, refl) },
+  record {
+    begun = refl;
+    unanswered = refl;
+    once = refl;
+    some = λ e. (cc (e));
+    distinct = (refl, tt);
+    drew = inl (refl, refl, refl);
+  },
 )
 
 locks_first : MayTake [] begins lock_first
@@ -137,7 +144,14 @@ locks_first = record {
 answers_first_run : IsWorldRun [] answers_first
 answers_first_run = (
   (((begins_run, locks_first), (refl, refl, inr refl)), omega arith),
-  record { begun = refl; unanswered = refl; once = refl; some = λ e. (cc (e)); distinct = (refl, tt); drew = inl (refl, refl, refl) },
+  record {
+    begun = refl;
+    unanswered = refl;
+    once = refl;
+    some = λ e. (cc (e));
+    distinct = (refl, tt);
+    drew = inl (refl, refl, refl);
+  },
 )
 
 locks_second : MayTake [] answers_first lock_second

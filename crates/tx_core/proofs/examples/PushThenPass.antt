@@ -128,7 +128,14 @@ again = Drawn 1 5 ∷ Took commit_low ∷ passed
 puts_run : IsWorldRun [] puts
 puts_run = (
   (((tt, omega arith), (λ e. (cc (e)), refl)), omega arith),
-  record { begun = refl; unanswered = refl; once = refl; some = λ e. (cc (e)); distinct = (refl, tt); drew = inl (refl, refl, refl) },
+  record {
+    begun = refl;
+    unanswered = refl;
+    once = refl;
+    some = λ e. (cc (e));
+    distinct = (refl, tt);
+    drew = inl (refl, refl, refl);
+  },
 )
 
 put_prewrites : MayTake [] puts prewrite_put

@@ -78,7 +78,14 @@ puts_run : IsWorldRun [] puts
 puts_run = (
   (
     (((tt, omega arith), (λ e. (cc (e)), refl)), omega arith),
-    record { begun = refl; unanswered = refl; once = refl; some = λ e. (cc (e)); distinct = (refl, tt); drew = inl (refl, refl, refl) },
+    record {
+      begun = refl;
+      unanswered = refl;
+      once = refl;
+      some = λ e. (cc (e));
+      distinct = (refl, tt);
+      drew = inl (refl, refl, refl);
+    },
   ),
   omega arith,
 )

@@ -8,7 +8,7 @@ use Rattle.tx_plan.specs.declared.key_change.Left.TheVariants as left
 use Rattle.tx_plan.specs.declared.key_change.NewLock.{NewLock}
 use Rattle.tx_plan.specs.Cells.{Lock, CommitRecord, Write, CommitOf, Rollback, Writes, Cells, with_write}
 use Rattle.tx_plan.specs.Changes.{changed, mark, after_left, Applies, after_put, CanPut}
-use Rattle.tx_plan.specs.Making.{LeavesNew, Makes}
+use Rattle.tx_plan.specs.RealChanges.{LeavesNew, Makes}
 use Rattle.tx_core.proofs.going_on.Keys.{nat_test}
 
 new_left : (write : Writes) (t : ℕ) (how : Left) → LeavesNew write t how → write ≢ after_left write t how

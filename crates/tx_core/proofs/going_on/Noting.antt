@@ -23,7 +23,7 @@ use Rattle.tx_plan.specs.cases.Collect.{kept}
 use Rattle.tx_core.proofs.going_on.Keys.{kept_same}
 use Rattle.tx_core.proofs.going_on.Order.{later_same, never_back}
 use Rattle.tx_core.proofs.going_on.Steps.{new_regular, steps, goes_more}
-use Rattle.tx_core.specs.Noting.{turn_of, turns, IsNoted, Notes, NotesAll, Drops}
+use Rattle.tx_core.specs.LastChanges.{turn_of, turns, IsNoted, Notes, NotesAll, Drops}
 
 goes_same : (region : Region) → GoesOn region region
 goes_same region = record { rises = omega arith; safe = omega arith; later = λ e k. later_same (region.cells k) }

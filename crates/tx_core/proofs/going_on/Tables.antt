@@ -72,7 +72,8 @@ module _ (s : ℕ) (cells : Cells) (is : IsRegular s cells) where
       (λ rec other. free rec record { stands = other.stands; other = λ same. other.other (same ∙ sym own.own) }))
 
   module _ (b : Commit) where
-    to_commit : (a x : Answer) → a ≡ x → Fine (leaves_on cells (asked.Commit b) x) → Fine (leaves_on cells (asked.Commit b) a)
+    to_commit : (a x : Answer) → a ≡ x → Fine (leaves_on cells (asked.Commit b) x)
+        → Fine (leaves_on cells (asked.Commit b) a)
     to_commit a x e f = subst (λ y. Fine (leaves_on cells (asked.Commit b) y)) (sym e) f
 
     pub fine_commit : (a : Answer) → AnswersCommit cells s b a → Fine (leaves_on cells (asked.Commit b) a)
@@ -92,10 +93,12 @@ module _ (s : ℕ) (cells : Cells) (is : IsRegular s cells) where
   -- ---- BatchRollback
 
   module _ (b : BatchRollback) where
-    to_batch : (a x : Answer) → a ≡ x → Fine (leaves_on cells (asked.BatchRollback b) x) → Fine (leaves_on cells (asked.BatchRollback b) a)
+    to_batch : (a x : Answer) → a ≡ x → Fine (leaves_on cells (asked.BatchRollback b) x)
+        → Fine (leaves_on cells (asked.BatchRollback b) a)
     to_batch a x e f = subst (λ y. Fine (leaves_on cells (asked.BatchRollback b) y)) (sym e) f
 
-    pub fine_batch_rollback : (a : Answer) → AnswersBatchRollback cells s b a → Fine (leaves_on cells (asked.BatchRollback b) a)
+    pub fine_batch_rollback : (a : Answer) → AnswersBatchRollback cells s b a
+        → Fine (leaves_on cells (asked.BatchRollback b) a)
     fine_batch_rollback a (inl x) = to_batch a (BelowSafePoint s) x.1 stays
     fine_batch_rollback a (inr (no0, inl (lock, own, e))) =
         to_batch a RolledBack e (roll_back_fine s cells b.start is (at_least b.start s no0))
@@ -106,10 +109,12 @@ module _ (s : ℕ) (cells : Cells) (is : IsRegular s cells) where
   -- ---- TxnHeartBeat
 
   module _ (b : TxnHeartBeat) where
-    to_beat : (a x : Answer) → a ≡ x → Fine (leaves_on cells (asked.TxnHeartBeat b) x) → Fine (leaves_on cells (asked.TxnHeartBeat b) a)
+    to_beat : (a x : Answer) → a ≡ x → Fine (leaves_on cells (asked.TxnHeartBeat b) x)
+        → Fine (leaves_on cells (asked.TxnHeartBeat b) a)
     to_beat a x e f = subst (λ y. Fine (leaves_on cells (asked.TxnHeartBeat b) y)) (sym e) f
 
-    pub fine_txn_heart_beat : (a : Answer) → AnswersTxnHeartBeat cells s b a → Fine (leaves_on cells (asked.TxnHeartBeat b) a)
+    pub fine_txn_heart_beat : (a : Answer) → AnswersTxnHeartBeat cells s b a
+        → Fine (leaves_on cells (asked.TxnHeartBeat b) a)
     fine_txn_heart_beat a (inl x) = to_beat a (BelowSafePoint s) x.1 stays
     fine_txn_heart_beat a (inr (no0, inl (lock, own, e))) =
         let new = with_ttl lock (max lock.ttl b.ttl) in
@@ -195,7 +200,8 @@ module _ (s : ℕ) (cells : Cells) (is : IsRegular s cells) where
   -- ---- ResolveLock
 
   module _ (b : ResolveLock) where
-    to_resolve : (a x : Answer) → a ≡ x → Fine (leaves_on cells (asked.ResolveLock b) x) → Fine (leaves_on cells (asked.ResolveLock b) a)
+    to_resolve : (a x : Answer) → a ≡ x → Fine (leaves_on cells (asked.ResolveLock b) x)
+        → Fine (leaves_on cells (asked.ResolveLock b) a)
     to_resolve a x e f = subst (λ y. Fine (leaves_on cells (asked.ResolveLock b) y)) (sym e) f
 
     resolved : Answer → Type 0
@@ -221,7 +227,8 @@ module _ (s : ℕ) (cells : Cells) (is : IsRegular s cells) where
     nothing unlocked fate.Aborted e = own_none cells b.start (λ l. roll_back cells b.start) unlocked
     nothing unlocked (fate.Committed c) e = own_none cells b.start (λ l. lock_committed cells c l) unlocked
 
-    pub fine_resolve_lock : (a : Answer) → AnswersResolveLock cells s b a → Fine (leaves_on cells (asked.ResolveLock b) a)
+    pub fine_resolve_lock : (a : Answer) → AnswersResolveLock cells s b a
+        → Fine (leaves_on cells (asked.ResolveLock b) a)
     fine_resolve_lock a (inl x) = to_resolve a (BelowSafePoint s) x.1 stays
     fine_resolve_lock a (inr (no0, inl (lock, own, x))) = resolves lock own no0 b.fate refl a x
     fine_resolve_lock a (inr (no0, inr (no1, e))) =
@@ -230,7 +237,8 @@ module _ (s : ℕ) (cells : Cells) (is : IsRegular s cells) where
   -- ---- Prewrite
 
   module _ (b : Prewrite) where
-    to_prewrite : (a x : Answer) → a ≡ x → Fine (leaves_on cells (asked.Prewrite b) x) → Fine (leaves_on cells (asked.Prewrite b) a)
+    to_prewrite : (a x : Answer) → a ≡ x → Fine (leaves_on cells (asked.Prewrite b) x)
+        → Fine (leaves_on cells (asked.Prewrite b) a)
     to_prewrite a x e f = subst (λ y. Fine (leaves_on cells (asked.Prewrite b) y)) (sym e) f
 
     above_start : (m : ℕ) → (m ≡ 0) ⊎ (b.start < m) → b.start < (lock_of b m).min

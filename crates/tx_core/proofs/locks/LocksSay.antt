@@ -107,7 +107,8 @@ left_lock r (body.Prewrite b) a k lock e =
     left_keyed r (body.Prewrite b) b.key (leaves_on (r.cells b.key) (body.Prewrite b) a) (does a) k lock e
   where
     locks : (m : ℕ) (o : Option Lock) → (r.cells b.key).lock ≡ o → (new : Lock)
-        → (leaves_on (record { lock = o; write = (r.cells b.key).write }) (body.Prewrite b) (Prewritten m)).lock ≡ Some new
+        → (leaves_on (record { lock = o; write = (r.cells b.key).write }) (body.Prewrite b) (Prewritten m)).lock
+        ≡ Some new
         → Left r (body.Prewrite b) b.key new
     locks m None is new y = put b m refl refl (some_same new (lock_of b m) (sym y))
     locks m (Some old) is new y = was (stood (r.cells b.key).lock new (is ∙ y))
@@ -150,7 +151,8 @@ left_lock r (body.CheckTxnStatus b) a k lock e =
         (λ old. record { start = refl; mode = refl; primary = refl; secondaries = refl }) new y)
     does _ new y = was (stood (r.cells b.key).lock new y)
 left_lock r (body.CheckSecondaryLocks b) a k lock e =
-    left_keyed r (body.CheckSecondaryLocks b) b.key (leaves_on (r.cells b.key) (body.CheckSecondaryLocks b) a) (does a) k lock e
+    left_keyed r (body.CheckSecondaryLocks b) b.key (leaves_on (r.cells b.key) (body.CheckSecondaryLocks b) a)
+    (does a) k lock e
   where
     does : (a : Answer) (new : Lock) → (leaves_on (r.cells b.key) (body.CheckSecondaryLocks b) a).lock ≡ Some new
         → Left r (body.CheckSecondaryLocks b) b.key new

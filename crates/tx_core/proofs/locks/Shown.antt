@@ -182,7 +182,11 @@ module _ (bounds : List Key) (h : History) (good : Good bounds h) (before : Told
         })
       where
         some : declared h told.start ≢ None
-        some none = cc ((first_declared (declared h b.start) b.key may.primary).1, subst (λ u. declared h u ≡ None) (start ∙ own.own) none)
+        some none = cc (
+          (first_declared (declared h b.start) b.key may.primary).1,
+          subst (λ u. declared h u ≡ None)
+              (start ∙ own.own) none,
+        )
 
         was : (t : ℕ) → b.start ≡ t → shown_in h t ≡ lock.min
         was t same = (let primary : is_first (set_at h lock.start) b.key ≡ true =

@@ -121,6 +121,7 @@ module _ (bounds : List Key) (h : History) (good : Good bounds h) (b : BatchRoll
   next_rollback a may (inr (no0, inr (no1, inl (c, own, e)))) =
       silent a (AlreadyCommitted c) e
       (quiet bounds h good b.key (body.BatchRollback b) l (AlreadyCommitted c) b.start
-      (λ x. leaves_on x (body.BatchRollback b) (AlreadyCommitted c)) (on_key (AlreadyCommitted c)) refl (λ u n. refl) refl
+      (λ x. leaves_on x (body.BatchRollback b) (AlreadyCommitted c)) (on_key (AlreadyCommitted c)) refl
+      (λ u n. refl) refl
       (true_commit bounds h good b.key b.start c own))
   next_rollback a may (inr (no0, inr (no1, inr (no2, e)))) = silent a RolledBack e (missing may no0 no1 no2)

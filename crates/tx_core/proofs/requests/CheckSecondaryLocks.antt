@@ -24,7 +24,8 @@ use Rattle.tx_core.proofs.requests.Good.{Good, Next, OnKey, took, cells_at, quie
 use Rattle.tx_plan.specs.Answers.{leaves_on}
 
 module _ (bounds : List Key) (h : History) (good : Good bounds h) (b : CheckSecondaryLocks) (l : ℕ) where
-  on_key : (a : Answer) → OnKey b.key (body.CheckSecondaryLocks b) a b.start (λ c. leaves_on c (body.CheckSecondaryLocks b) a)
+  on_key : (a : Answer) → OnKey b.key (body.CheckSecondaryLocks b) a b.start
+      (λ c. leaves_on c (body.CheckSecondaryLocks b) a)
   on_key a = record {
     named = refl;
     does = λ r. refl;
@@ -94,7 +95,8 @@ module _ (bounds : List Key) (h : History) (good : Good bounds h) (b : CheckSeco
   next_check_secondary a may (inr (no0, inl (lock, own, e))) =
       silent a (Locked (info_of b.key lock)) e
       (quiet bounds h good b.key (body.CheckSecondaryLocks b) l (Locked (info_of b.key lock)) b.start
-      (λ c. leaves_on c (body.CheckSecondaryLocks b) (Locked (info_of b.key lock))) (on_key (Locked (info_of b.key lock))) refl
+      (λ c. leaves_on c (body.CheckSecondaryLocks b) (Locked (info_of b.key lock)))
+      (on_key (Locked (info_of b.key lock))) refl
       (λ u n. refl) refl tt)
   next_check_secondary a may (inr (no0, inr (no1, inl (c, own, e)))) =
       silent a (Committed c) e

@@ -142,10 +142,10 @@ module _ (bounds : List Key) (h : History) (good : Good bounds h) (b : CheckTxnS
       checks a (inr (no0, inr (no1, inr (no2, e)))) = silent a (Locked (info_of b.key lock)) e stays
 
     -- nothing of it stands there: it was never accepted there
-    module _ (fresh : b.start < (left h (route bounds b.key)).collected → ⊥) (unlocked :
-        (lock : Lock) → OwnLock (cells_at bounds h b.key).lock b.start lock → ⊥) (uncommitted :
-        (c : ℕ) → OwnCommit (cells_at bounds h b.key).write b.start c → ⊥) (unrolled :
-        OwnRollback (cells_at bounds h b.key).write b.start → ⊥) where
+    module _ (fresh : b.start < (left h (route bounds b.key)).collected → ⊥)
+        (unlocked : (lock : Lock) → OwnLock (cells_at bounds h b.key).lock b.start lock → ⊥)
+        (uncommitted : (c : ℕ) → OwnCommit (cells_at bounds h b.key).write b.start c → ⊥)
+        (unrolled : OwnRollback (cells_at bounds h b.key).write b.start → ⊥) where
       within : mutation_at (set_of (declared h b.start)) b.key ≢ None
       within =
           let does = first_within (declared h) b.start b.key first in
@@ -183,7 +183,8 @@ module _ (bounds : List Key) (h : History) (good : Good bounds h) (b : CheckTxnS
   next_check_status a may (inr (no0, inl x)) =
       silent a (FutureTimestamp l) x.1
       (quiet bounds h good b.key (body.CheckTxnStatus b) l (FutureTimestamp l) b.start
-      (λ c. leaves_on c (body.CheckTxnStatus b) (FutureTimestamp l)) (on_key (FutureTimestamp l)) refl (λ u n. refl) refl tt)
+      (λ c. leaves_on c (body.CheckTxnStatus b) (FutureTimestamp l)) (on_key (FutureTimestamp l)) refl
+      (λ u n. refl) refl tt)
   next_check_status a may (inr (no0, inr (no1, inl (lock, own, x)))) = checks may lock own a x
   next_check_status a may (inr (no0, inr (no1, inr (no2, inl (c, own, e))))) =
       silent a (Committed c) e

@@ -41,7 +41,8 @@ module _ (bounds : List Key) (h : History) (good : Good bounds h) (n : ℕ) (l :
               record {
                 lock = lock;
                 stands =
-                    subst (λ m. ((left h m).cells q).lock ≡ Some lock) (sym (eqb-true n (route bounds q) inside)) stands;
+                    subst (λ m. ((left h m).cells q).lock ≡ Some lock) (sym (eqb-true n (route bounds q) inside))
+                    stands;
                 told =
                     refl;
                 below = lt;

@@ -65,7 +65,8 @@ module _ (bounds : List Key) (h : History) (good : Good bounds h) (b : Commit) (
         → Next bounds h (took (route bounds b.key) (body.Commit b) l (Committed b.commit))
     follows end =
         assemble bounds h b.key (body.Commit b) l (Committed b.commit) b.start
-        (λ c. leaves_on c (body.Commit b) (Committed b.commit)) (on_key (Committed b.commit)) (Settles b.key b.start b.commit)
+        (λ c. leaves_on c (body.Commit b) (Committed b.commit)) (on_key (Committed b.commit))
+        (Settles b.key b.start b.commit)
         settles (decided h) (accepted h) (shown_in h) (commit_lock (cells_at bounds h b.key) b.start b.commit)
         (shadow h) same_fate
         (λ u q. refl)
@@ -98,7 +99,8 @@ module _ (bounds : List Key) (h : History) (good : Good bounds h) (b : Commit) (
         ∷ shadow h) w b.key b.start b.commit
         (sound_decide (shadow h) (view bounds h) b.start b.commit good.sound may) now in
         assemble bounds h b.key (body.Commit b) l (Committed b.commit) b.start
-        (λ c. leaves_on c (body.Commit b) (Committed b.commit)) (on_key (Committed b.commit)) (Settles b.key b.start b.commit)
+        (λ c. leaves_on c (body.Commit b) (Committed b.commit)) (on_key (Committed b.commit))
+        (Settles b.key b.start b.commit)
         settles w.decided (accepted h) (shown_in h) (commit_lock (cells_at bounds h b.key) b.start b.commit)
         (step.Commit b.start b.commit ∷ shadow h) new_fate
         (λ u q. refl)
@@ -243,7 +245,8 @@ module _ (bounds : List Key) (h : History) (good : Good bounds h) (b : Commit) (
   next_commit a may (inr (no0, inl (lock, own, inl x))) =
       silent a (CommitTsExpired lock.min) x.1
       (quiet bounds h good b.key (body.Commit b) l (CommitTsExpired lock.min) b.start
-      (λ c. leaves_on c (body.Commit b) (CommitTsExpired lock.min)) (on_key (CommitTsExpired lock.min)) refl (λ u n. refl) refl
+      (λ c. leaves_on c (body.Commit b) (CommitTsExpired lock.min)) (on_key (CommitTsExpired lock.min)) refl
+      (λ u n. refl) refl
       (expired lock own may x.0))
   next_commit a may (inr (no0, inl (lock, own, inr (no1, inl (rec, x, e))))) =
       absurd (unmet lock own may rec x)
@@ -252,9 +255,11 @@ module _ (bounds : List Key) (h : History) (good : Good bounds h) (b : Commit) (
   next_commit a may (inr (no0, inr (no1, inl (c, own, e)))) = silent a (Committed c) e (again c own no1)
   next_commit a may (inr (no0, inr (no1, inr (no2, inl x)))) =
       silent a AlreadyRolledBack x.1
-      (quiet bounds h good b.key (body.Commit b) l AlreadyRolledBack b.start (λ c. leaves_on c (body.Commit b) AlreadyRolledBack)
+      (quiet bounds h good b.key (body.Commit b) l AlreadyRolledBack b.start
+      (λ c. leaves_on c (body.Commit b) AlreadyRolledBack)
       (on_key AlreadyRolledBack) refl (λ u n. refl) refl (true_rollback bounds h good b.key b.start x.0))
   next_commit a may (inr (no0, inr (no1, inr (no2, inr (no3, e))))) =
       silent a TxnLockNotFound e
-      (quiet bounds h good b.key (body.Commit b) l TxnLockNotFound b.start (λ c. leaves_on c (body.Commit b) TxnLockNotFound)
+      (quiet bounds h good b.key (body.Commit b) l TxnLockNotFound b.start
+      (λ c. leaves_on c (body.Commit b) TxnLockNotFound)
       (on_key TxnLockNotFound) refl (λ u n. refl) refl tt)

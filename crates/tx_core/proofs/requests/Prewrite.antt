@@ -122,12 +122,13 @@ module _ (bounds : List Key) (h : History) (good : Good bounds h) (b : Prewrite)
       }
 
   leaves_it : (a : Answer) (e : Effect) → effect_in h (taken a) ≡ e
-      → (d : ℕ → State) (acc : ℕ → Key → Option Acceptance) (shown : ℕ
-      → ℕ) (reads : List Reading) (new : Cells) (rs steps : List Step)
+      → (d : ℕ → State) (acc : ℕ → Key → Option Acceptance)
+      (shown : ℕ → ℕ) (reads : List Reading) (new : Cells) (rs steps : List Step)
       → ((u : ℕ) → first_decided (decision (set_at h u) (λ q. accepted_by e (last h) u q (accepted h u q)) e u)
       (decided h u) ≡ d u) → ((u : ℕ) (q : Key) → accepted_by e (last h) u q (accepted h u q) ≡ acc u q)
       → ((u : ℕ) → shown_put (set_at h u) e u (shown_in h u) ≡ shown u)
-      → checks_by (body.Prewrite b) e (reads_in h) ≡ reads → leaves_on (cells_at bounds h b.key) (body.Prewrite b) a ≡ new
+      → checks_by (body.Prewrite b) e (reads_in h) ≡ reads
+      → leaves_on (cells_at bounds h b.key) (body.Prewrite b) a ≡ new
       → checking (body.Prewrite b) e ≡ rs → deciding b.start (decided h b.start) (d b.start) ++ (rs ++ shadow h) ≡ steps
       → Sound steps (after a d acc shown reads new) → Ends (after a d acc shown reads new)
       → IsTrueAnswer (table_of steps) (body.Prewrite b) a → Next bounds h (taken a)
@@ -149,7 +150,8 @@ module _ (bounds : List Key) (h : History) (good : Good bounds h) (b : Prewrite)
         floor = λ q. refl;
         safe = λ q. part_same h here (route bounds q) (body.Prewrite b) l a (λ r. r.safe) (λ r. refl);
         collected = λ q. part_same h here (route bounds q) (body.Prewrite b) l a (λ r. r.collected) (λ r. refl);
-        cells = λ q. cells_keyed bounds h b.key (body.Prewrite b) l a (λ c. leaves_on c (body.Prewrite b) a) (λ r j. refl) q
+        cells = λ q. cells_keyed bounds h b.key (body.Prewrite b) l a (λ c. leaves_on c (body.Prewrite b) a)
+            (λ r j. refl) q
             ∙ ap (λ c. cond (bytes_eq b.key q) c (cells_at bounds h q)) cells;
       } in
       let made : shadow (Took x ∷ h) ≡ steps =
@@ -186,9 +188,9 @@ module _ (bounds : List Key) (h : History) (good : Good bounds h) (b : Prewrite)
 
   module _ (m : ℕ) (reads : List Reading) (rs : List Step) (notes :
       noted b.key (check_by b.mutation b.start) (reads_in h) ≡ reads) (checks : checked b (check_by b.mutation b.start)
-      ≡ rs) (sound : Sound (rs ++ shadow h) (checked_view m reads)) (may :
-      MayLock (checked_view m reads) b.key (lock_of b m)) (unrolled :
-      OwnRollback (cells_at bounds h b.key).write b.start → ⊥) where
+      ≡ rs) (sound : Sound (rs ++ shadow h) (checked_view m reads))
+      (may : MayLock (checked_view m reads) b.key (lock_of b m))
+      (unrolled : OwnRollback (cells_at bounds h b.key).write b.start → ⊥) where
     least_is : (o : Option ℕ)
         → greatest ((locking (checked_view m reads) b.key (lock_of b m)).accepted b.start) (set_at h b.start) ≡ o
         → (u : ℕ) → b.start ≡ u
@@ -424,7 +426,8 @@ module _ (bounds : List Key) (h : History) (good : Good bounds h) (b : Prewrite)
           let above : b.start < b.start + 1 = omega arith in
           let least : b.start + 1 ≤ last h + 1 = omega (arith, start_drawn) in
           let most : last h + 1 ≤ last h + 1 = omega arith in
-          putting 0 (λ reads j read. may_lock (checked_view 0 reads) b.key (lock_of b 0) j from_safe no4 no3 no5 low does
+          putting 0 (λ reads j read. may_lock (checked_view 0 reads) b.key (lock_of b 0) j from_safe no4 no3 no5 low
+          does
           above least most (λ e. absurd (cc (e))) (λ d e x. refl)
           (λ d e. (let after : d.drawn < last h + 1 = omega (arith, drawn_upto d e) in after)) checked_none read)
 

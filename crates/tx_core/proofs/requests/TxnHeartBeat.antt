@@ -36,7 +36,8 @@ module _ (bounds : List Key) (h : History) (good : Good bounds h) (b : TxnHeartB
   -- the lock has this time to live now
   lives : (ttl : ℕ) → Next bounds h (took (route bounds b.key) (body.TxnHeartBeat b) l (Ttl ttl))
   lives ttl =
-      assemble bounds h b.key (body.TxnHeartBeat b) l (Ttl ttl) b.start (λ c. leaves_on c (body.TxnHeartBeat b) (Ttl ttl))
+      assemble bounds h b.key (body.TxnHeartBeat b) l (Ttl ttl) b.start
+      (λ c. leaves_on c (body.TxnHeartBeat b) (Ttl ttl))
       (on_key (Ttl ttl)) NoEffect refl (decided h) (accepted h) (shown_in h)
       (lengthened (cells_at bounds h b.key) b.start ttl) (shadow h)
       (λ u. refl)

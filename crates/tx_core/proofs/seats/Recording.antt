@@ -53,8 +53,8 @@ module _ (i t : ℕ) (h : History) (by : drawer h t ≡ Some i) where
   unanswered_next (Stopped s) other is = is
   unanswered_next (Took x) other is = is
 
-module _ (bounds : List Key) (i t : ℕ) (l h : History) (run : IsWorldRun bounds h) (goes : Extends i l h) (by :
-    drawer l t ≡ Some i) where
+module _ (bounds : List Key) (i t : ℕ) (l h : History) (run : IsWorldRun bounds h) (goes : Extends i l h)
+    (by : drawer l t ≡ Some i) where
   -- a fact of what the seat drew, which each event of another seat keeps
   own_on : (P : History → Type 0)
       → ((x : History) (e : Event) → drawer x t ≡ Some i → owner x e ≢ Some i → P x → P (e ∷ x)) → P l → P h
@@ -90,7 +90,8 @@ module _ (bounds : List Key) (i : ℕ) (l : History) where
       → WasLast l x.loaded → Answers (left l x.region) x.loaded (last l) x.body x.answer → MayRecord bounds i l (Took x)
   may_take x own inside allowed holds was answers h run goes =
       let b = extends_begins i l h goes in
-      let same : left h x.region ≡ left l x.region = subst (λ n. left h n ≡ left l n) (sym own) (left_on i l h goes) in (
+      let same : left h x.region ≡ left l x.region =
+      subst (λ n. left h n ≡ left l n) (sym own) (left_on i l h goes) in (
         record {
           region = subst (λ n. n ≤ length bounds) (sym own) inside;
           allowed = allowed_on bounds l h run b x.body allowed;
@@ -120,7 +121,8 @@ module _ (bounds : List Key) (i : ℕ) (l : History) where
 
   -- it declares once, with a number that it drew since, before it answers
   pub may_declare : (d : Declaration) → drawer l d.start ≡ Some i → began l d.start ≡ true
-      → answered l d.start ≡ false → declared l d.start ≡ None → d.changes ≢ [] → IsDistinct d.changes → DrewSince l d.start d.drawn → MayRecord bounds i l (Declared d)
+      → answered l d.start ≡ false → declared l d.start ≡ None → d.changes ≢ [] → IsDistinct d.changes
+      → DrewSince l d.start d.drawn → MayRecord bounds i l (Declared d)
   may_declare d by begun unanswered new some distinct drew h run goes =
       let b = extends_begins i l h goes in (
         record {

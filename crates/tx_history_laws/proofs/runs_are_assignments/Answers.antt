@@ -12,8 +12,8 @@ use Rattle.tx_history.specs.Histories.{History, HasVersion, IsAssignment}
 use Rattle.tx_history_laws.specs.Runs.{IsOf, value_at}
 use Rattle.tx_history_laws.proofs.runs_are_assignments.Goals as goal
 
--- a read at t of k is of version i: that is committed at or below t, and no version that is committed
--- above it is
+-- a read at t of k is of version i: that is committed at or below t, and no version that is
+-- committed above it is
 record IsVersionAt (h : History) (commit : ℕ → ℕ) (k t i : ℕ) : Type 0 where
   upto : HasVersion h k i → commit (h.writer k i) ≤ t
   none : (j : ℕ) → HasVersion h k j → (HasVersion h k i → commit (h.writer k i) < commit (h.writer k j))
@@ -38,7 +38,8 @@ best f t (suc n) = elim (cases_lt t (f (suc n))) [
       low,
       omega (arith, high),
       upto,
-      λ i a b le. last_or (λ q. f q ≤ t → f q ≤ f j) n i b (λ lt ok. top i a lt ok) (λ ok. absurd (omega (arith, above, ok))) le,
+      λ i a b le. last_or (λ q. f q ≤ t → f q ≤ f j) n i b (λ lt ok. top i a lt ok)
+          (λ ok. absurd (omega (arith, above, ok))) le,
     )
   ]
   | inr within ↦ elim (best f t n) [
@@ -80,7 +81,8 @@ puts_are_visible Delete v e = absurd (grind (arith, e))
 puts_are_visible Lock v e = absurd (grind (arith, e))
 
 module _ (h : History) (rows : Rows) (key : ℕ → Key) (value : ℕ → ℕ → Value) (start commit : ℕ → ℕ)
-    (rises : (k u c : ℕ) (m : Mutation) → Commits rows (key k) u c m → u < c) (o : IsOf h rows key value start commit) where
+    (rises : (k u c : ℕ) (m : Mutation) → Commits rows (key k) u c m
+    → u < c) (o : IsOf h rows key value start commit) where
   above : (k i : ℕ) → HasVersion h k i → start (h.writer k i) < commit (h.writer k i)
   above k i has = rises k _ _ _ (o.commits k i has)
 
@@ -137,7 +139,8 @@ module _ (h : History) (rows : Rows) (key : ℕ → Key) (value : ℕ → ℕ �
       let P : ℕ → Type 0 = λ q. HasVersion h k q → commit (h.writer k i) ≤ start (h.writer k q) in
       subst P (sym e) (λ within. (version_at k (start (h.writer k (i + 1))) i has.1 (o.base k i within)).upto has) more
 
-  later : (k i j n : ℕ) → HasVersion h k i → HasVersion h k j → j ≡ i + 1 + n → commit (h.writer k i) ≤ start (h.writer k j)
+  later : (k i j n : ℕ) → HasVersion h k i → HasVersion h k j → j ≡ i + 1 + n
+      → commit (h.writer k i) ≤ start (h.writer k j)
   later k i j zero has more e = step k i j has more (omega (arith, e))
   later k i j (suc n) has more e =
       let within : HasVersion h k (i + 1 + n) = (omega arith, omega (arith, more.1, e)) in
@@ -163,7 +166,8 @@ of_rows h rows key value start commit rises o = record {
   above = o.ends;
   after = o.after;
   apart = apart h rows key value start commit rises o;
-  seen = λ r is has. (version_at h rows key value start commit rises o r.key (start r.txn) r.version has.1 (o.reads r is)).upto has;
+  seen = λ r is has. (version_at h rows key value start commit rises o r.key (start r.txn) r.version has.1
+      (o.reads r is)).upto has;
   newest = newest h rows key value start commit rises o;
 }
 

@@ -1,8 +1,8 @@
-//! Ranges of more rows than a page has, with what was entered over them.
+//! Ranges of more rows than a page has: with what was entered over them, and as they were before.
 use std::sync::Wait;
 use std::test::Fail;
 use tx_kv::{
-    Client, Failure, JournalId, Key, KeyValues, Mode, Program, Stop, Terms, Tx, Value, Work,
+    Client, Failure, JournalId, Key, KeyValues, Mode, Program, Stop, Terms, Ts, Tx, Value, Work,
     with_store,
 };
 
@@ -69,11 +69,19 @@ impl Work for Look {
     }
 }
 
-// How many rows each range has, after two transactions of so many.
-fn looked<J: JournalId, R: Wait>(client: &mut Client<'_, J, R>) -> Option<[usize; 6]> {
-    drop(client.update(&mut Fill(0)).ok()?);
-    drop(client.update(&mut Fill(ROWS)).ok()?);
-    Some(client.update(&mut Look).ok()?.value)
+// How many rows a client sees as it is now, and before it wrote the second half.
+fn rows_seen<J: JournalId, R: Wait>(
+    client: &mut Client<'_, J, R>,
+    half: Ts,
+) -> Result<[usize; 4], Stop> {
+    let from = Key::new(client.alloc(), b"k\x02")?;
+    let to = Key::new(client.alloc(), b"k\x04")?;
+    let now = count(&client.view()?.range(None, None)?);
+    let before = count(&client.view_at(half).range(None, None)?);
+    let mut view = client.view()?;
+    let part = count(&view.range(Some(from.clone()?), Some(to.clone()?))?);
+    let none = count(&view.range(Some(to), Some(from))?);
+    Ok([now, before, part, none])
 }
 
 #[derive(Drop)]
@@ -82,26 +90,32 @@ struct Story;
 impl<R: Wait> Program<R> for Story {
     type Out = ();
 
-    type Answer = bool;
+    type Answer = Option<bool>;
 
     fn run<J: JournalId>(&self, client: &mut Client<'_, J, R>) {
         let _ = client;
     }
 
-    fn end<J: JournalId>(self, client: &mut Client<'_, J, R>, _: Vec<()>) -> bool {
+    fn end<J: JournalId>(self, client: &mut Client<'_, J, R>, _: Vec<()>) -> Option<bool> {
         let terms = Terms {
             mode: Mode::TwoPhase,
             ttl: 1_000,
             max_commit: None,
         };
         client.set_terms(terms, 0);
-        looked(client) == Some([1_200, 1_200, 5, 11, 1_099, 0])
+        drop(client.update(&mut Fill(0)).ok()?);
+        let half = client.timestamp().ok()?;
+        drop(client.update(&mut Fill(ROWS)).ok()?);
+        let looked = client.update(&mut Look).ok()?;
+        let found = looked.value;
+        let seen = rows_seen(client, half).ok()?;
+        Some(found == [1_200, 1_200, 5, 11, 1_099, 0] && seen == [1_200, 600, 512, 0])
     }
 }
 
 #[test]
 fn ranges_have_all_rows(rt: HostRuntime) -> Result<(), Fail> {
     let told = with_store(&rt, rt.alloc(), &[b"k\x03", b"m"], 1, Story);
-    assert!(rt; matches!(told, Ok(true)));
+    assert!(rt; matches!(told, Ok(Some(true))));
     Ok(())
 }

@@ -81,7 +81,9 @@ impl<J: JournalId, F: Families + Drop> Planner<J, F> {
 
     /// Shows that an answer is to the request that was sent.
     pub fn show(&self)
-        ensures { IsSender J.bounds ⟦<Planner<J, F> as Sender<Request<J>, Reply<J>>>⟧.fits ⟦<Planner<J, F> as Sender<Request<J>, Reply<J>>>⟧.sends ⟦<Planner<J, F> as Sender<Request<J>, Reply<J>>>⟧.keys_between }
+        ensures { IsSender J.bounds ⟦<Planner<J, F> as Sender<Request<J>, Reply<J>>>⟧.fits
+            ⟦<Planner<J, F> as Sender<Request<J>, Reply<J>>>⟧.sends
+            ⟦<Planner<J, F> as Sender<Request<J>, Reply<J>>>⟧.keys_between }
     {
         let _ = self.handling;
     }

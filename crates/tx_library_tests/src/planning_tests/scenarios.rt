@@ -1,7 +1,7 @@
 //! What sessions do, and what they hear.
 use crate::calls::Op::*;
-use crate::planning_tests::acting::{SILENT, Step};
 use crate::planning_tests::planner::Handling::{Held, Lost, Plain, Planned};
+use crate::planning_tests::sessions::{SILENT, Step};
 use crate::table_tests::shown::{NOTHING, RAISED, ROLLED_BACK, Short, Word};
 use tx_types::Mode;
 

@@ -42,7 +42,8 @@ fn put_lock<F: Families>(
     change: KeyChange,
 ) -> Result<bool, Fault>
     requires of { key.now ≡ body.now.key }
-    requires can { IfSome (new_lock change) (λ new. CanPut (cells_of (F.content families.old body.now.key)) body.now new) }
+    requires can { IfSome (new_lock change)
+        (λ new. CanPut (cells_of (F.content families.old body.now.key)) body.now new) }
 {
     match change {
         KeyChange::Lock(new) => {

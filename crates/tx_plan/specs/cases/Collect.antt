@@ -74,7 +74,8 @@ pub record IsFirstBelow (cells : Key → Cells) (safe : ℕ) (info : LockInfo) :
 abbrev pub AnswersCollectBy : ((Key → Cells) → ℕ → Answer → Type 0) → (Key → Cells) → ℕ → Collect → Answer → Type 0
 AnswersCollectBy Counts cells safe b a =
     Case (b.safe ≢ safe) (a ≡ BelowSafePoint safe)
-    (Case ((info : LockInfo) × IsLockBelow cells b.safe info) ((info : LockInfo) × IsFirstBelow cells b.safe info × (a ≡ LocksRemain info))
+    (Case ((info : LockInfo) × IsLockBelow cells b.safe info) ((info : LockInfo) × IsFirstBelow cells b.safe info
+    × (a ≡ LocksRemain info))
     (Counts cells b.safe a))
 
 -- it has collected, whatever it counted

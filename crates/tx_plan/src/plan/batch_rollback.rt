@@ -2,7 +2,7 @@
 ghost use Rattle.std.specs.Prelude.{◌≡◌, ℕ, None};
 ghost use Rattle.tx_plan.specs.Cells.{Cells};
 ghost use Rattle.tx_plan.specs.Changes.{changed, Applies};
-ghost use Rattle.tx_plan.specs.Making.{Makes};
+ghost use Rattle.tx_plan.specs.RealChanges.{Makes};
 ghost use Rattle.tx_plan.specs.Plans.{answer_with};
 ghost use Rattle.tx_plan.specs.Views.{Shows, info_on};
 ghost use Rattle.tx_plan.specs.cases.BatchRollback.{AnswersBatchRollback};
@@ -12,7 +12,7 @@ ghost use Rattle.tx_plan.specs.declared.body.Body.TheVariants as asked;
 use crate::answer::Answer;
 use crate::body::BatchRollback;
 use crate::plan::own::own_lock;
-use crate::plan::rolling::roll_back;
+use crate::plan::rollback::roll_back;
 use crate::planned::Plan;
 use crate::view::TxnView;
 use tx_types::Ts;

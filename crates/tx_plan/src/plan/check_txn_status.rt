@@ -2,7 +2,7 @@
 ghost use Rattle.std.specs.Prelude.{◌≡◌, ◌+◌, ◌<◌, ◌↔◌, ℕ, IsTrue, None};
 ghost use Rattle.tx_plan.specs.Cells.{Cells};
 ghost use Rattle.tx_plan.specs.Changes.{changed, Applies};
-ghost use Rattle.tx_plan.specs.Making.{Makes};
+ghost use Rattle.tx_plan.specs.RealChanges.{Makes};
 ghost use Rattle.tx_plan.specs.Plans.{answer_with};
 ghost use Rattle.tx_plan.specs.Views.{Shows, HasOwnHead, info_on};
 ghost use Rattle.tx_plan.specs.cases.CheckTxnStatus.{ChecksLock, AnswersCheckTxnStatus};
@@ -13,7 +13,7 @@ use crate::answer::Answer;
 use crate::body::CheckTxnStatus;
 use crate::key_change::KeyChange;
 use crate::plan::own::{is_rolled_back, own_lock};
-use crate::plan::rolling::roll_back;
+use crate::plan::rollback::roll_back;
 use crate::planned::{Plan, PlannedAnswer};
 use crate::view::{LockHead, TxnView};
 use tx_types::{Mode, Ts};

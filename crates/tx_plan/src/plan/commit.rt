@@ -2,7 +2,7 @@
 ghost use Rattle.std.specs.Prelude.{◌≡◌, None};
 ghost use Rattle.tx_plan.specs.Cells.{Cells};
 ghost use Rattle.tx_plan.specs.Changes.{changed, Applies};
-ghost use Rattle.tx_plan.specs.Making.{Makes};
+ghost use Rattle.tx_plan.specs.RealChanges.{Makes};
 ghost use Rattle.tx_plan.specs.Plans.{answer_with};
 ghost use Rattle.tx_plan.specs.Views.{Shows, info_on};
 ghost use Rattle.tx_plan.specs.cases.Commit.{AnswersCommit};
@@ -11,7 +11,7 @@ ghost use Rattle.tx_plan.specs.declared.body.Body.TheVariants as asked;
 
 use crate::answer::Answer;
 use crate::body::Commit;
-use crate::plan::committing::{commit_lock, commit_refusal};
+use crate::plan::lock_commit::{commit_lock, commit_refusal};
 use crate::plan::own::{is_rolled_back, own_lock};
 use crate::planned::Plan;
 use crate::view::TxnView;

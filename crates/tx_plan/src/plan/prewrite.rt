@@ -4,7 +4,7 @@ ghost use Rattle.tx_types.specs.Keys.{IsInsert};
 ghost use Rattle.tx_types.specs.declared.lock.LockInfo.{LockInfo};
 ghost use Rattle.tx_plan.specs.Cells.{Cells};
 ghost use Rattle.tx_plan.specs.Changes.{new_lock, after_put, CanPut};
-ghost use Rattle.tx_plan.specs.Locking.{AnswersLock};
+ghost use Rattle.tx_plan.specs.FreeKeys.{AnswersLock};
 ghost use Rattle.tx_plan.specs.Plans.{answer_with};
 ghost use Rattle.tx_plan.specs.Views.{Shows, info_on};
 ghost use Rattle.tx_plan.specs.cases.Prewrite.{AnswersPrewrite, read_by_prewrite, check_by, HasValue, least_minimum, IsWithin};

@@ -2,8 +2,8 @@
 ghost use Rattle.std.specs.Prelude.{◌≡◌, None};
 ghost use Rattle.tx_plan.specs.Cells.{Cells};
 ghost use Rattle.tx_plan.specs.Changes.{changed, Applies};
-ghost use Rattle.tx_plan.specs.Committing.{commit_in};
-ghost use Rattle.tx_plan.specs.Making.{Makes};
+ghost use Rattle.tx_plan.specs.LockCommit.{commit_in};
+ghost use Rattle.tx_plan.specs.RealChanges.{Makes};
 ghost use Rattle.tx_plan.specs.Plans.{answer_with};
 ghost use Rattle.tx_plan.specs.Views.{Shows, info_on};
 ghost use Rattle.tx_plan.specs.cases.ResolveLock.{AnswersResolveLock};
@@ -12,9 +12,9 @@ ghost use Rattle.tx_plan.specs.declared.body.Body.TheVariants as asked;
 
 use crate::answer::Answer;
 use crate::body::ResolveLock;
-use crate::plan::committing::{commit_lock, commit_refusal};
+use crate::plan::lock_commit::{commit_lock, commit_refusal};
 use crate::plan::own::own_lock;
-use crate::plan::rolling::roll_back;
+use crate::plan::rollback::roll_back;
 use crate::planned::Plan;
 use crate::view::TxnView;
 use tx_types::{Fate, Ts};

@@ -28,7 +28,8 @@ puts_are_visible Lock v e = absurd (grind (arith, e))
 
 module _ (r : Recording) (orders : Orders) (x : Explanation) (rows : Rows) (key : ℕ → Key) (value : List ℕ → Value)
     (o : IsRecordingOf r orders x rows key value)
-    (free : (k : Key) (t c u d : ℕ) (m n : Mutation) → Commits rows k t c m → Commits rows k u d n → t ≢ u → (Overlap t c u d → ⊥)) where
+    (free : (k : Key) (t c u d : ℕ) (m n : Mutation) → Commits rows k t c m → Commits rows k u d n → t ≢ u
+    → (Overlap t c u d → ⊥)) where
   -- whether t is a writer of k
   writes : (k t : ℕ) → IsWriter r x t k ⊎ (IsWriter r x t k → ⊥)
   writes k t = elim (cases_Bool (x.committed t)) [
@@ -136,7 +137,8 @@ module _ (r : Recording) (orders : Orders) (x : Explanation) (rows : Rows) (key 
           omega (arith, same, upto),
           λ w writes_w le. (elim (cases_lt (x.commit u) (x.commit w)) [
             | inr within ↦ within
-            | inl above ↦ absurd (new.newest (x.start w) (x.commit w) (Put (value (x.left w k))) (o.commits k w writes_w) tt
+            | inl above ↦ absurd (new.newest (x.start w) (x.commit w) (Put (value (x.left w k)))
+                (o.commits k w writes_w) tt
                 (omega (arith, same, above)) le)
           ]),
         ),
@@ -147,7 +149,8 @@ module _ (r : Recording) (orders : Orders) (x : Explanation) (rows : Rows) (key 
   seen k at [] shows = none_seen k at shows
   seen k at (v ∷ vs) shows = some_seen k at (v ∷ vs) shows
 
-  apart : (k t u : ℕ) → IsWriter r x t k → IsWriter r x u k → t ≢ u → (x.commit t ≤ x.start u) ⊎ (x.commit u ≤ x.start t)
+  apart : (k t u : ℕ) → IsWriter r x t k → IsWriter r x u k → t ≢ u → (x.commit t ≤ x.start u)
+      ⊎ (x.commit u ≤ x.start t)
   apart k t u a b ne = elim (cases_lt (x.start u) (x.commit t)) [
     | inr le ↦ inl le
     | inl lt ↦ elim (cases_lt (x.start t) (x.commit u)) [

@@ -5,7 +5,7 @@ ghost use Rattle.tx_region.specs.Regions.{region_of, HasSameNumbers};
 ghost use Rattle.tx_region.specs.Calls.{Executes, Counts, TakesNoMemory};
 
 use crate::copy::Loaded;
-use crate::planning::plan;
+use crate::copy_plan::plan;
 use crate::records::{Executed, Records};
 use tx_cells::Families;
 use tx_plan::Body;

@@ -3,7 +3,7 @@ ghost use Rattle.std.specs.Prelude.{◌≡◌, ◌⊎◌, ℕ, List, length, IfO
 ghost use Rattle.tx_types.specs.declared.key.Key.{Key};
 ghost use Rattle.tx_plan.specs.declared.body.Body.TheVariants as request;
 ghost use Rattle.tx_plan.specs.cases.Collect.{AllDropped, kept};
-ghost use Rattle.tx_core.specs.Noting.{Drops};
+ghost use Rattle.tx_core.specs.LastChanges.{Drops};
 ghost use Rattle.tx_region.specs.Regions.{region_of, HasSameNumbers};
 ghost use Rattle.tx_region.specs.Calls.{Executes, Counts};
 

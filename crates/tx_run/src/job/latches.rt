@@ -20,8 +20,8 @@ fn own_slot<J: JournalId>(session: &Session<J>, need: LatchNeed) -> Option<Slot>
     ensures { result ≡ option_map slot_of_key (key_of session.now.state need) }
 {
     let key = match need {
-        LatchNeed::Due(phase) => session.due_key(phase),
-        LatchNeed::Primary => session.primary(),
+        LatchNeed::Due(phase) => session.transaction().due_key(phase),
+        LatchNeed::Primary => session.transaction().primary(),
         LatchNeed::Nothing | LatchNeed::Met => None,
     };
     match key {

@@ -1,13 +1,13 @@
 //! What a session of a run does by its lines.
-ghost use Rattle.std.specs.Prelude.{◌≡◌, true, None, Some};
+ghost use Rattle.std.specs.Prelude.{◌≡◌, ◌+◌, true, None, Some};
 ghost use Rattle.tx_steps.specs.Steps.{asked, IsApart};
-ghost use Rattle.tx_run.specs.Jobs.{GoesOn, MayAnswer, with_line};
+ghost use Rattle.tx_run.specs.Jobs.{JobGoesOn, MayAnswer, with_line};
 ghost use Rattle.tx_run.specs.LineNumbers.{number_of};
 ghost use Rattle.tx_run.specs.Readers.{HasSession};
 ghost use Rattle.tx_run.specs.Steps.{Says, SaysStep};
-ghost use Rattle.tx_run.specs.Tells.{EnteredBy, EnteredIn, IsBegun, SaysOwn, SaidTells, is_bare, session_name};
+ghost use Rattle.tx_run.specs.Tells.{ComeLater, EnteredBy, EnteredBefore, IsBegun, SaidTells, SaysOfSession, SaysOwn, is_refusal, session_name};
 ghost use Rattle.tx_evidence.specs.Buffers.{AllBy};
-ghost use Rattle.tx_transfer.specs.Calls.{said_of};
+ghost use Rattle.tx_transfer.specs.Replies.{said_of};
 ghost use Rattle.tx_transfer.specs.Sources.{HasPair, pair_of};
 
 use super::ScriptJob;
@@ -26,14 +26,14 @@ use tx_types::{Cause, is_name};
 impl<J: JournalId, L: Source, F: Families + Drop, R: Wait + Drop> ScriptJob<J, L, F, R> {
     fn begin(&mut self, number: u64, seat: Seat<J>)
         requires may { MayAnswer self.old }
-        requires says { SaysStep L.text number }
-        ensures { GoesOn (with_line number self.old) self.new }
+        requires says { SaysOfSession L.text number }
+        ensures { JobGoesOn (with_line number self.old) self.new }
     {
         match Session::begin(self.context.alloc, seat) {
             Ok(session) => self.on_begun(number, session),
             Err(seat) => {
                 self.set_state(JobState::Free(seat));
-                self.report_bare(number, PlainReply::new(ScriptReply::OracleSpent));
+                self.report_refusal(number, PlainReply::new(ScriptReply::OracleSpent));
             }
         }
     }
@@ -41,9 +41,9 @@ impl<J: JournalId, L: Source, F: Families + Drop, R: Wait + Drop> ScriptJob<J, L
     // Keeps a session that has just begun.
     pub(super) fn on_begun(&mut self, number: u64, mut session: Session<J>)
         requires may { MayAnswer self.old }
-        requires says { SaysStep L.text number }
+        requires says { SaysOfSession L.text number }
         requires begun { IsBegun J.bounds session }
-        ensures { GoesOn (with_line number self.old) self.new }
+        ensures { JobGoesOn (with_line number self.old) self.new }
     {
         let start = session.start();
         self.hear(&mut session);
@@ -66,7 +66,7 @@ impl<J: JournalId, L: Source, F: Families + Drop, R: Wait + Drop> ScriptJob<J, L
         requires may { MayAnswer self.old }
         requires pair { HasPair L.text number None }
         requires says { SaysStep L.text number }
-        ensures { GoesOn (with_line number self.old) self.new }
+        ensures { JobGoesOn (with_line number self.old) self.new }
     {
         match self.conclude(number, session, None) {
             Ok(seat) => self.set_state(JobState::Free(seat)),
@@ -80,22 +80,38 @@ impl<J: JournalId, L: Source, F: Families + Drop, R: Wait + Drop> ScriptJob<J, L
     pub(super) fn stop(&mut self, number: u64, session: Session<J>, plain: PlainReply)
         requires may { MayAnswer self.old }
         requires says { SaysStep L.text number }
-        requires bare { is_bare plain.reply ≡ true }
-        ensures { GoesOn (with_line number self.old) self.new }
+        requires refusal { is_refusal plain.reply ≡ true }
+        ensures { JobGoesOn (with_line number self.old) self.new }
     {
         self.set_state(JobState::Free(session.stop()));
-        self.report_bare(number, plain);
+        self.report_refusal(number, plain);
     }
 
-    // What a step of a session that is live comes to.
-    fn result_of(&mut self, session: &mut Session<J>, step: Step<&str>) -> Result<PlainReply, Cause>
-        requires own { AllBy (EnteredBy L.text self.old.number) session.old.state.buffer }
-        requires says { SaysOwn L.text self.old.number (asked step) }
+    // Leaves the transaction as it is, as its line says.
+    fn leave(&mut self, number: u64, session: Session<J>)
+        requires may { MayAnswer self.old }
+        requires says { SaysOfSession L.text number }
+        ensures { JobGoesOn (with_line number self.old) self.new }
+    {
+        self.set_state(JobState::Free(session.stop()));
+        self.report(number, PlainReply::new(ScriptReply::Fine));
+    }
+
+    // What the step of this line comes to, of a session that is live.
+    fn result_of(
+        &mut self,
+        number: u64,
+        session: &mut Session<J>,
+        step: Step<&str>,
+    ) -> Result<PlainReply, Cause>
+        requires own { AllBy (EnteredBy L.text self.old.number number) session.old.state.buffer }
+        requires says { SaysOwn L.text self.old.number number (asked step) }
         ensures job { self.new ≡ self.old }
-        ensures own { AllBy (EnteredBy L.text self.old.number) session.new.state.buffer }
-        ensures tells { SaidTells J.bounds (EnteredIn L.text) session.new.seat.events (asked step.entry)
+        ensures own { AllBy (EnteredBy L.text self.old.number (number + 1)) session.new.state.buffer }
+        ensures tells { SaidTells J.bounds (EnteredBefore L.text number) session.new.seat.events (asked step.entry)
             (said_of result) }
     {
+        let _ = number;
         match step {
             Step::Act(_, action) => act(session, &mut self.context, action),
             Step::Send(_, request, _) => send(session, &mut self.context, request),
@@ -107,12 +123,13 @@ impl<J: JournalId, L: Source, F: Families + Drop, R: Wait + Drop> ScriptJob<J, L
     // A step of a session that is live.
     fn operate(&mut self, number: u64, mut session: Box<Session<J>>, step: Step<&str>)
         requires may { MayAnswer self.old }
-        requires own { AllBy (EnteredBy L.text self.old.number) session.value.state.buffer }
+        requires own { AllBy (EnteredBy L.text self.old.number number) session.value.state.buffer }
+        requires later { ComeLater L.text number self.old.left }
         requires says { Says L.text number (Some (asked step)) }
         requires named { HasSession L.text number (session_name L.text self.old.number) }
-        ensures { GoesOn (with_line number self.old) self.new }
+        ensures { JobGoesOn (with_line number self.old) self.new }
     {
-        let result = self.result_of(&mut session, step);
+        let result = self.result_of(number, &mut session, step);
         self.hear(&mut session);
         self.set_state(JobState::Live(session));
         self.on_answer(number, result);
@@ -126,7 +143,9 @@ impl<J: JournalId, L: Source, F: Families + Drop, R: Wait + Drop> ScriptJob<J, L
         requires says { Says L.text number (Some (asked step)) }
         requires step { SaysStep L.text number }
         requires named { HasSession L.text number (session_name L.text self.old.number) }
-        ensures { GoesOn (with_line number self.old) self.new }
+        requires later { ComeLater L.text number self.old.left }
+        requires entered { AllBy (EnteredBy L.text self.old.number number) self.old.entered }
+        ensures { JobGoesOn (with_line number self.old) self.new }
     {
         match self.take_state() {
             JobState::Free(seat) => match step {
@@ -141,13 +160,7 @@ impl<J: JournalId, L: Source, F: Families + Drop, R: Wait + Drop> ScriptJob<J, L
             },
             JobState::Live(session) => match step {
                 Step::Act(_, Op::Finish) => self.finish(number, Box::into_inner(session)),
-                Step::Act(_, Op::Stop) => {
-                    self.stop(
-                        number,
-                        Box::into_inner(session),
-                        PlainReply::new(ScriptReply::Fine),
-                    );
-                }
+                Step::Act(_, Op::Stop) => self.leave(number, Box::into_inner(session)),
                 other => self.operate(number, session, other),
             },
             JobState::Transfer(..) | JobState::Taken => self.fail(number, Cause::Order),
@@ -158,7 +171,9 @@ impl<J: JournalId, L: Source, F: Families + Drop, R: Wait + Drop> ScriptJob<J, L
     fn play(&mut self, script_line: &ScriptLine<L>)
         requires may { MayAnswer self.old }
         requires named { HasSession L.text script_line.now.number (session_name L.text self.old.number) }
-        ensures { GoesOn (with_line script_line.now.number self.old) self.new }
+        requires later { ComeLater L.text script_line.now.number self.old.left }
+        requires entered { AllBy (EnteredBy L.text self.old.number script_line.now.number) self.old.entered }
+        ensures { JobGoesOn (with_line script_line.now.number self.old) self.new }
     {
         let mut parts = Parts::new();
         match Line::read(
@@ -172,7 +187,7 @@ impl<J: JournalId, L: Source, F: Families + Drop, R: Wait + Drop> ScriptJob<J, L
                 None => self.fail(script_line.number, Cause::Form),
             },
             Ok(Err(cause)) => self.fail(script_line.number, cause),
-            Err(_) => self.report_bare(
+            Err(_) => self.report_refusal(
                 script_line.number,
                 PlainReply::new(ScriptReply::OutOfMemory),
             ),
@@ -183,7 +198,9 @@ impl<J: JournalId, L: Source, F: Families + Drop, R: Wait + Drop> ScriptJob<J, L
     pub(super) fn enter(&mut self, line: SessionLine<L>)
         requires may { MayAnswer self.old }
         requires named { HasSession L.text (number_of line) (session_name L.text self.old.number) }
-        ensures { GoesOn (with_line (number_of line) self.old) self.new }
+        requires later { ComeLater L.text (number_of line) self.old.left }
+        requires entered { AllBy (EnteredBy L.text self.old.number (number_of line)) self.old.entered }
+        ensures { JobGoesOn (with_line (number_of line) self.old) self.new }
     {
         match line {
             SessionLine::Transfer(order) => self.on_order(Box::into_inner(order)),

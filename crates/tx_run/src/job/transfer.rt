@@ -1,8 +1,8 @@
 //! A transfer of a session of a run: it begins, goes on, and ends.
 ghost use Rattle.std.specs.Prelude.{◌≡◌, ◌≢◌, true, Some};
-ghost use Rattle.tx_run.specs.Jobs.{GoesOn, MayAnswer, with_line};
+ghost use Rattle.tx_run.specs.Jobs.{JobGoesOn, MayAnswer, with_line};
 ghost use Rattle.tx_run.specs.Steps.{SaysStep};
-ghost use Rattle.tx_run.specs.Tells.{is_bare};
+ghost use Rattle.tx_run.specs.Tells.{is_refusal};
 ghost use Rattle.tx_transfer.specs.Sources.{HasPair};
 
 use super::ScriptJob;
@@ -21,7 +21,7 @@ impl<J: JournalId, L: Source, F: Families + Drop, R: Wait + Drop> ScriptJob<J, L
     fn go_on(&mut self, number: u64, transfer: Box<TransferState<J, L>>)
         requires may { MayAnswer self.old }
         requires of { transfer.value ≡ number }
-        ensures { GoesOn (with_line number self.old) self.new }
+        ensures { JobGoesOn (with_line number self.old) self.new }
     {
         let _ = number;
         self.set_state(JobState::Transfer(transfer));
@@ -30,7 +30,7 @@ impl<J: JournalId, L: Source, F: Families + Drop, R: Wait + Drop> ScriptJob<J, L
     // A transfer begins: nothing is told before it ends.
     pub(super) fn start_transfer(&mut self, seat: Seat<J>, order: Order<L>)
         requires { MayAnswer self.old }
-        ensures { GoesOn (with_line order.number self.old) self.new }
+        ensures { JobGoesOn (with_line order.number self.old) self.new }
     {
         let number = order.number;
         match Session::begin(self.context.alloc, seat) {
@@ -42,7 +42,7 @@ impl<J: JournalId, L: Source, F: Families + Drop, R: Wait + Drop> ScriptJob<J, L
             },
             Err(seat) => {
                 self.set_state(JobState::Free(seat));
-                self.report_bare(number, PlainReply::new(ScriptReply::OracleSpent));
+                self.report_refusal(number, PlainReply::new(ScriptReply::OracleSpent));
             }
         }
     }
@@ -53,12 +53,12 @@ impl<J: JournalId, L: Source, F: Families + Drop, R: Wait + Drop> ScriptJob<J, L
         requires says { SaysStep L.text number }
         requires apart { transfer.from.now ≢ transfer.to.now }
         requires pair { HasPair L.text number (Some (transfer.from.now, transfer.to.now)) }
-        ensures { GoesOn (with_line number self.old) self.new }
+        ensures { JobGoesOn (with_line number self.old) self.new }
     {
         match Order::new(self.context.alloc, number, &transfer) {
             Err(fault) => {
                 self.set_state(JobState::Free(seat));
-                self.report_bare(number, refused(fault));
+                self.report_refusal(number, refused(fault));
             }
             Ok(order) => self.start_transfer(seat, order),
         }
@@ -67,7 +67,7 @@ impl<J: JournalId, L: Source, F: Families + Drop, R: Wait + Drop> ScriptJob<J, L
     // A transfer begins, where no transaction is open.
     pub(super) fn on_order(&mut self, order: Order<L>)
         requires { MayAnswer self.old }
-        ensures { GoesOn (with_line order.number self.old) self.new }
+        ensures { JobGoesOn (with_line order.number self.old) self.new }
     {
         match self.take_state() {
             JobState::Free(seat) => self.start_transfer(seat, order),
@@ -81,7 +81,7 @@ impl<J: JournalId, L: Source, F: Families + Drop, R: Wait + Drop> ScriptJob<J, L
     // A transfer is over.
     fn end_transfer(&mut self, transfer: TransferState<J, L>)
         requires { MayAnswer self.old }
-        ensures { GoesOn (with_line transfer self.old) self.new }
+        ensures { JobGoesOn (with_line transfer self.old) self.new }
     {
         let (session, number, keys) = transfer.into_parts();
         match self.conclude(number, session, Some(keys)) {
@@ -93,8 +93,8 @@ impl<J: JournalId, L: Source, F: Families + Drop, R: Wait + Drop> ScriptJob<J, L
     // A transfer is left as it is.
     fn give_up(&mut self, transfer: TransferState<J, L>, plain: PlainReply)
         requires may { MayAnswer self.old }
-        requires bare { is_bare plain.reply ≡ true }
-        ensures { GoesOn (with_line transfer self.old) self.new }
+        requires refusal { is_refusal plain.reply ≡ true }
+        ensures { JobGoesOn (with_line transfer self.old) self.new }
     {
         let (session, number, keys) = transfer.into_parts();
         drop(keys);
@@ -113,7 +113,7 @@ impl<J: JournalId, L: Source, F: Families + Drop, R: Wait + Drop> ScriptJob<J, L
 
     // A transfer that goes on no more.
     pub(super) fn finish_transfer(&mut self, progress: TransferProgress)
-        ensures { GoesOn self.old self.new }
+        ensures { JobGoesOn self.old self.new }
     {
         match self.take_state() {
             JobState::Transfer(transfer) => match progress {

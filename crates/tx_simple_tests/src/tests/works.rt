@@ -115,7 +115,6 @@ impl<'a, J: JournalId, R: Wait> Work for Contended<'a, J, R> {
     fn apply<T: Tx>(&mut self, tx: &mut T) -> Result<(), Failure<GaveUp>> {
         if let Some(seats) = self.rival.take() {
             let mut wire = Wire::new(self.rt, self.store);
-            wire.show();
             let mut rival = Doing::new(Deed::Put(9));
             drop(run(
                 self.alloc,

@@ -1,5 +1,5 @@
 //! What may be done of a transaction, and what is known of its fate.
-ghost use Rattle.std.specs.Prelude.{◌≡◌, true, IfOk, IfErr, OnOk, OnErr, is_some, option_map};
+ghost use Rattle.std.specs.Prelude.{◌≡◌, true, IfOk, IfErr, OnOk, OnErr, option_map};
 ghost use Rattle.tx_transaction.specs.declared.state.Phase.TheVariants as phase;
 ghost use Rattle.tx_transaction.specs.Buffers.{first_index};
 ghost use Rattle.tx_transaction.specs.Sessions.{can_draw, may_commit, can_commit, may_abort, can_abort, notes_one, with_passed, finish_of};
@@ -76,13 +76,6 @@ impl Transaction {
         ensures { result ≡ self.now.decision }
     {
         self.decision
-    }
-
-    /// Whether a lock stood in its way.
-    pub fn has_met(&self) -> bool
-        ensures { result ≡ is_some self.now.met }
-    {
-        self.met.is_some()
     }
 
     /// The lock that last stood in its way.

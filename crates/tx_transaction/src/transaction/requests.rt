@@ -4,11 +4,11 @@ ghost use Rattle.tx_core.specs.Allowed.{floor_of};
 ghost use Rattle.tx_plan.specs.declared.body.Body.TheVariants as request;
 ghost use Rattle.tx_transaction.specs.Buffers.{not_empty};
 ghost use Rattle.tx_transaction.specs.Next.{due};
-ghost use Rattle.tx_transaction.specs.Sessions.{has_primary, declaration_of, exceeds, others_at, prewrite_of, due_prewrite, due_commit, due_abort, commit_at, check_at, rollback_at, heartbeat_of, read_of, scan_of, abort_open};
+ghost use Rattle.tx_transaction.specs.Sessions.{has_primary, declaration_of, exceeds, others_at, prewrite_of, due_prewrite, due_commit, due_abort, keyed_at, heartbeat_of, read_of, scan_of, abort_open};
 
 use super::Transaction;
 use crate::buffer::{has_keys, index_of, key_of, mutation_of, other_keys};
-use crate::state::{Due, Phase, Terms};
+use crate::state::{Due, KeyRequest, Phase, Terms};
 use std::alloc::Global;
 use tx_core::{
     BatchRollback, Body, Boxed, CheckSecondaryLocks, Commit, Get, Prewrite, Scan, TxnHeartBeat,
@@ -80,10 +80,10 @@ impl Transaction {
         Ok(Some(Due { index, body }))
     }
 
-    // The commit of the key at an index, if there is one.
-    fn commit_at(&self, index: Option<usize>, commit: Ts) -> Result<Option<Due>, Fault>
+    // What is asked of the key at an index, if there is one.
+    fn keyed_at(&self, index: Option<usize>, asked: KeyRequest) -> Result<Option<Due>, Fault>
         requires { IfSome index (λ i. i < length self.now.buffer) }
-        ensures ok { IfOk result (λ due. due ≡ commit_at self.now commit index) }
+        ensures ok { IfOk result (λ due. due ≡ keyed_at self.now asked index) }
         ensures within { IfOk result (λ due. IfSome due (λ d. d.index < length self.now.buffer)) }
         ensures err { IfErr result (λ e. e ≡ Fault.OutOfMemory) }
         ensures some { OnErr result (is_some index ≡ true) }
@@ -93,7 +93,11 @@ impl Transaction {
         };
         let key = key_of(&self.buffer, index)?;
         let start = self.start;
-        let body = Body::Commit(Commit { key, start, commit });
+        let body = match asked {
+            KeyRequest::Commit(commit) => Body::Commit(Commit { key, start, commit }),
+            KeyRequest::Rollback => Body::BatchRollback(BatchRollback { key, start }),
+            KeyRequest::Check => Body::CheckSecondaryLocks(CheckSecondaryLocks { key, start }),
+        };
         Ok(Some(Due { index, body }))
     }
 
@@ -110,48 +114,15 @@ impl Transaction {
         }
         match self.decision {
             None => match self.drawn {
-                Some(commit) => self.commit_at(Some(0), commit),
+                Some(commit) => self.keyed_at(Some(0), KeyRequest::Commit(commit)),
                 None => Ok(None),
             },
             Some(Fate::Committed(commit)) => {
-                self.commit_at(index_of(&self.buffer, Phase::Commit), commit)
+                let index = index_of(&self.buffer, Phase::Commit);
+                self.keyed_at(index, KeyRequest::Commit(commit))
             }
             Some(Fate::Aborted) => Ok(None),
         }
-    }
-
-    // The rollback of the key at an index, if there is one.
-    fn rollback_at(&self, index: Option<usize>) -> Result<Option<Due>, Fault>
-        requires { IfSome index (λ i. i < length self.now.buffer) }
-        ensures ok { IfOk result (λ due. due ≡ rollback_at self.now index) }
-        ensures within { IfOk result (λ due. IfSome due (λ d. d.index < length self.now.buffer)) }
-        ensures err { IfErr result (λ e. e ≡ Fault.OutOfMemory) }
-        ensures some { OnErr result (is_some index ≡ true) }
-    {
-        let Some(index) = index else {
-            return Ok(None);
-        };
-        let key = key_of(&self.buffer, index)?;
-        let start = self.start;
-        let body = Body::BatchRollback(BatchRollback { key, start });
-        Ok(Some(Due { index, body }))
-    }
-
-    // The check of the key at an index, if there is one.
-    fn check_at(&self, index: Option<usize>) -> Result<Option<Due>, Fault>
-        requires { IfSome index (λ i. i < length self.now.buffer) }
-        ensures ok { IfOk result (λ due. due ≡ check_at self.now index) }
-        ensures within { IfOk result (λ due. IfSome due (λ d. d.index < length self.now.buffer)) }
-        ensures err { IfErr result (λ e. e ≡ Fault.OutOfMemory) }
-        ensures some { OnErr result (is_some index ≡ true) }
-    {
-        let Some(index) = index else {
-            return Ok(None);
-        };
-        let key = key_of(&self.buffer, index)?;
-        let start = self.start;
-        let body = Body::CheckSecondaryLocks(CheckSecondaryLocks { key, start });
-        Ok(Some(Due { index, body }))
     }
 
     // What may decide.
@@ -169,8 +140,11 @@ impl Transaction {
             return Ok(None);
         }
         match terms.mode {
-            Mode::TwoPhase => self.rollback_at(Some(0)),
-            Mode::Async => self.check_at(index_of(&self.buffer, Phase::Prewrite)),
+            Mode::TwoPhase => self.keyed_at(Some(0), KeyRequest::Rollback),
+            Mode::Async => {
+                let index = index_of(&self.buffer, Phase::Prewrite);
+                self.keyed_at(index, KeyRequest::Check)
+            }
         }
     }
 
@@ -185,7 +159,10 @@ impl Transaction {
         match self.decision {
             None => self.abort_open(),
             Some(Fate::Committed(_)) => Ok(None),
-            Some(Fate::Aborted) => self.rollback_at(index_of(&self.buffer, Phase::Abort)),
+            Some(Fate::Aborted) => {
+                let index = index_of(&self.buffer, Phase::Abort);
+                self.keyed_at(index, KeyRequest::Rollback)
+            }
         }
     }
 

@@ -18,7 +18,9 @@ returns c =
     let label = label_text h s s.key in
     let sense = c.as_slice-3.result.now in
     on_so c.put_step.result c.put_step.ensures (λ e.
-    e ∙ ap (λ k. old ++ step_text at last k c.as_slice.result.now c.as_slice-2.result.now sense) c.edge_word-kind.ensures
-    ∙ ap (λ n. old ++ step_text at last kind n c.as_slice-2.result.now sense) (c.as_slice.ensures.value ∙ c.in_ok-name.ensures)
+    e ∙ ap (λ k. old ++ step_text at last k c.as_slice.result.now c.as_slice-2.result.now sense)
+    c.edge_word-kind.ensures
+    ∙ ap (λ n. old ++ step_text at last kind n c.as_slice-2.result.now sense) (c.as_slice.ensures.value
+    ∙ c.in_ok-name.ensures)
     ∙ ap (λ l. old ++ step_text at last kind name l sense) (c.as_slice-2.ensures.value ∙ c.in_ok-label.ensures)
     ∙ ap (λ t. old ++ step_text at last kind name label t) (c.as_slice-3.ensures.value ∙ c.in_ok-sense.ensures))

@@ -13,7 +13,8 @@ returns-in-Err-Step-clause-turns g c =
     let refused = rw c.in-Err-Step.field-0-is at c.in-Err-Step.ensures.refused in
     let keeps = c.in-Err-Step.ensures.same in
     if_some _ (λ bytes read.
-    let turns : StepTurns bytes (g.R.Read.remaining c.read_line.new.reader) c.args.machine.now c.step.new.self c.args.number
+    let turns : StepTurns bytes (g.R.Read.remaining c.read_line.new.reader) c.args.machine.now c.step.new.self
+    c.args.number
     (Refused c.in-Ok.step) =
     (line, read.0, read.1, read.3, found, refused (search rules), keeps) in turns) reads
 
@@ -24,6 +25,7 @@ returns-in-Ok-step-clause-turns g c =
     let found : step_in c.args.number line ≡ Ok c.in-Ok.step = search rules in
     let makes = c.in-Ok-step.ensures.ok in
     if_some _ (λ bytes read.
-    let turns : StepTurns bytes (g.R.Read.remaining c.read_line.new.reader) c.args.machine.now c.step.new.self c.args.number
+    let turns : StepTurns bytes (g.R.Read.remaining c.read_line.new.reader) c.args.machine.now c.step.new.self
+    c.args.number
     (Made c.in-Ok.step) =
     (line, read.0, read.1, read.3, found, makes) in turns) reads

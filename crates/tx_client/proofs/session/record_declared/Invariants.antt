@@ -4,4 +4,5 @@ use Rattle.tx_client.proofs.session.record_declared.Given as goal
 
 -- the transaction declares its buffer
 abbrev pub ghosts-record_declaration : goal.ghosts-record_declaration
-ghosts-record_declaration g a = record { event = Declared (declaration_of a.transaction.now.start a.placed a.transaction.now.buffer a.terms.now) }
+ghosts-record_declaration g a =
+    record { event = Declared (declaration_of a.transaction.now.start a.placed a.transaction.now.buffer a.terms.now) }

@@ -13,5 +13,6 @@ loop-txn-preserved c =
     let n = c.loop-txn.txn in
     let lt : n < txns_of r = grind (arith, common_steps, c.loop-txn-test.true, c.len-txn-end.ensures) in
     let read = get_or_read r.transactions.items n c.index.result.now lt c.index.ensures no_transaction in
-    begun_more r c.args.live.now c.loop-txn.events.items c.push.new.self.items n c.in-Some.time c.in_ok-push.ensures.items
+    begun_more r c.args.live.now c.loop-txn.events.items c.push.new.self.items n c.in-Some.time
+    c.in_ok-push.ensures.items
     (sym (ap (λ (q : Transaction). q.began) read) ∙ c.in-Some.is) c.loop-txn.invariant

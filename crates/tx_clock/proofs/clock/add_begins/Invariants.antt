@@ -2,7 +2,7 @@
 use Rattle.std.proofs.Common.{◌≡◌, ℕ, ◌<◌, Contains, Some, IsTrue, false}
 use Rattle.tx_recording.specs.Recordings.{transaction_at}
 use Rattle.tx_clock.specs.declared.clock.Event.{Event}
-use Rattle.tx_clock.specs.Keeping.{live_in}
+use Rattle.tx_clock.specs.KeptOrder.{live_in}
 use Rattle.tx_clock.proofs.clock.add_begins.Given as goal
 
 abbrev pub invariant-loop-txn : goal.invariant-loop-txn

@@ -13,7 +13,8 @@ loop-txn-preserved c =
     let r = c.args.recording.now in
     let n = c.loop-txn.txn in
     let lt : n < txns_of r = grind (arith, common_steps, c.loop-txn-test.true, c.len-txn-end.ensures) in
-    let read = get_or_read r.transactions.items n c.index-in-loop-txn.result.now lt c.index-in-loop-txn.ensures no_transaction in
+    let read = get_or_read r.transactions.items n c.index-in-loop-txn.result.now lt c.index-in-loop-txn.ensures
+    no_transaction in
     record {
       kept = kept_push c.args.events.now.items c.loop-txn.events.items c.push.new.self.items
           record { time = c.in-Some.time; txn = n; ends = true } c.in_ok-push.ensures.items c.loop-txn.invariant.kept;

@@ -8,6 +8,7 @@ use Rattle.tx_clock.proofs.clock.add_ends.Given as goal
 abbrev pub invariant-loop-txn : goal.invariant-loop-txn
 invariant-loop-txn l = record {
   kept : (e : Event) → Contains l.fn.events.items e → Contains l.events.items e;
-  has : (t e : ℕ) → t < l.txn → (transaction_at l.recording t).outcome ≡ Ok → (transaction_at l.recording t).ended ≡ Some e
+  has : (t e : ℕ) → t < l.txn → (transaction_at l.recording t).outcome ≡ Ok
+      → (transaction_at l.recording t).ended ≡ Some e
       → Contains l.events.items record { time = e; txn = t; ends = true };
 }

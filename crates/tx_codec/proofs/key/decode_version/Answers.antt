@@ -19,7 +19,9 @@ returns-clause-found c =
     let f = rw c.in-Some.is at c.in_ok-key.ensures.found in
     let n = length c.args.bytes.now - 8 in (
       f.0,
-      version_made c.args.bytes.now c.in-Some.key c.new.result n (λ i. omega (arith, c.type_inv.bytes i)) (omega arith) refl (sym c.split_at.ensures.front ∙ f.1)
+      version_made c.args.bytes.now c.in-Some.key
+          c.new.result n (λ i. omega (arith, c.type_inv.bytes i)) (omega arith) refl (sym c.split_at.ensures.front
+          ∙ f.1)
           (c.new.ensures ∙ ap (λ k. 2 ^ 64 - 1 - k) (c.read_u64.ensures ∙ ap (big_number 8) c.split_at.ensures.back)),
     )
 
@@ -29,5 +31,7 @@ returns-clause-only c = λ key ts is lt e.
     let n = length c.args.bytes.now - 8 in
     let parts = version_parts c.args.bytes.now key ts n (omega arith) refl e in
     let key-is = key_is c.in-Some.key key (o key is (c.split_at.ensures.front ∙ parts.0)) in
-    let ts-is = c.new.ensures ∙ ap (λ k. 2 ^ 64 - 1 - k) c.read_u64.ensures ∙ timestamp_is c.split_at.result.1.now ts lt (c.split_at.ensures.back ∙ parts.1) in
+    let ts-is = c.new.ensures
+    ∙ ap (λ k. 2 ^ 64 - 1 - k) c.read_u64.ensures
+    ∙ timestamp_is c.split_at.result.1.now ts lt (c.split_at.ensures.back ∙ parts.1) in
     version_is c.in-Some.key key c.new.result ts key-is ts-is

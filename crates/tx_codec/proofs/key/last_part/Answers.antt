@@ -18,5 +18,6 @@ returns-then-ne c = λ part lt e.
     let zeros : take (8 - length c.split_at.result.0.now) (replicate 8 0) ≡ replicate (8 - length part) 0 =
     ap (λ n. take (8 - n) (replicate 8 0)) (ap length front) ∙ take-replicate (8 - length part) 8 0 (omega arith) in
     let same = c.split_at.ensures.back ∙ p.pads ∙ sym zeros in
-    let equal = (slice_eq-Decides Decides-eqb c.split_at.result.1.now (take (8 - length c.split_at.result.0.now) (replicate 8 0)) _ refl).1 same in
+    let equal = (slice_eq-Decides Decides-eqb c.split_at.result.1.now
+    (take (8 - length c.split_at.result.0.now) (replicate 8 0)) _ refl).1 same in
     (not_both _ equal c.if-ne.ensures)

@@ -23,22 +23,37 @@ pub loop-rest-preserved : goal.loop-rest-preserved
 loop-rest-preserved c =
     let rest = c.loop-rest.rest.now in
     let marker = sym (marker_is rest c.split_at.result.0.now c.split_at.ensures.front) ∙ c.if-group.false in
-    let part : c.copy_from_slice.new.self ≡ take 8 rest = c.copy_from_slice.ensures.after ∙ ap (take 8) c.split_at.ensures.front ∙ take-take 8 9 rest (omega arith) in
-    let written = front_written c.loop-rest.key c.copy_from_slice.new.self c.loop-rest.len (c.loop-rest.len + 8) (omega arith) (omega (arith, ap length part, length-take 8 rest)) in
-    (c.if-len-gt-MAX_KEY_BYTES.false, rw (written, part, c.split_at.ensures.back) (IsRead-group c.args.bytes.now rest (take c.loop-rest.len c.loop-rest.key) (omega arith) marker c.loop-rest.invariant.1))
+    let part : c.copy_from_slice.new.self ≡ take 8 rest = c.copy_from_slice.ensures.after
+    ∙ ap (take 8) c.split_at.ensures.front ∙ take-take 8 9 rest (omega arith) in
+    let written = front_written c.loop-rest.key c.copy_from_slice.new.self c.loop-rest.len (c.loop-rest.len + 8)
+    (omega arith) (omega (arith, ap length part, length-take 8 rest)) in (
+      c.if-len-gt-MAX_KEY_BYTES.false,
+      rw (written, part, c.split_at.ensures.back)
+          (IsRead-group c.args.bytes.now rest (take c.loop-rest.len c.loop-rest.key)
+          (omega arith) marker c.loop-rest.invariant.1),
+    )
 
 pub returns-in_err-part : goal.returns-in_err-part
 returns-in_err-part c =
-    rw c.from_residual.ensures (λ other fits. IsRead-none c.args.bytes.now c.loop-rest.rest.now (take c.loop-rest.len c.loop-rest.key) c.loop-rest.invariant.1 (omega arith) c.in_err-part.ensures other)
+    rw c.from_residual.ensures (λ other fits. IsRead-none c.args.bytes.now
+    c.loop-rest.rest.now (take c.loop-rest.len c.loop-rest.key) c.loop-rest.invariant.1
+    (omega arith) c.in_err-part.ensures other)
 
 pub returns-then-part-len : goal.returns-then-part-len
 returns-then-part-len c =
-    IsRead-long c.args.bytes.now c.loop-rest.rest.now (take c.loop-rest.len c.loop-rest.key) c.in_ok-part.part.now c.loop-rest.invariant.1 (omega arith) c.in_ok-part.ensures.0 c.in_ok-part.ensures.1 (omega (arith, length-take c.loop-rest.len c.loop-rest.key))
+    IsRead-long c.args.bytes.now c.loop-rest.rest.now (take c.loop-rest.len c.loop-rest.key) c.in_ok-part.part.now
+    c.loop-rest.invariant.1 (omega arith) c.in_ok-part.ensures.0 c.in_ok-part.ensures.1
+    (omega (arith, length-take c.loop-rest.len c.loop-rest.key))
 
 pub returns : goal.returns
 returns c =
     let part = c.in_ok-part.part.now in
     let n = c.loop-rest.len + length part in
     let same : c.copy_from_slice-2.new.self ≡ part = c.copy_from_slice-2.ensures.after in
-    let written = front_written c.loop-rest.key c.copy_from_slice-2.new.self c.loop-rest.len n (omega arith) (omega (arith, ap length same)) in
-    (omega arith, rw (written, same) (IsRead-all c.args.bytes.now c.loop-rest.rest.now (take c.loop-rest.len c.loop-rest.key) part c.loop-rest.invariant.1 c.in_ok-part.ensures.0 c.in_ok-part.ensures.1))
+    let written = front_written c.loop-rest.key c.copy_from_slice-2.new.self c.loop-rest.len n (omega arith)
+    (omega (arith, ap length same)) in (
+      omega arith,
+      rw (written, same) (IsRead-all c.args.bytes.now c.loop-rest.rest.now
+          (take c.loop-rest.len c.loop-rest.key) part c.loop-rest.invariant.1 c.in_ok-part.ensures.0
+          c.in_ok-part.ensures.1),
+    )

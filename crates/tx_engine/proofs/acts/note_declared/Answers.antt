@@ -1,7 +1,7 @@
-use Rattle.std.proofs.Common.{ℕ, sym, subst, ◌∙◌}
+use Rattle.std.proofs.Common.{ℕ, sym, subst, ◌∙◌, ap}
 use Rattle.tx_core.specs.declared.event.Event.TheVariants.{Drawn}
 use Rattle.tx_transaction.specs.Buffers.{not_empty}
-use Rattle.tx_transaction.specs.Sessions.{is_declared, declaration}
+use Rattle.tx_transaction.specs.Sessions.{is_declared, declaration, SessionState}
 use Rattle.tx_network.specs.Networks.{GoesOnWith}
 use Rattle.tx_engine.proofs.Acting.{placed_none, placed_some, not_empty_is}
 use Rattle.tx_engine.proofs.acts.note_declared.Goals as goal
@@ -20,5 +20,6 @@ returns-clause-notes g c =
     let mid = c.drew.new.self.trace in
     placed_some s.start s.placed s.buffer terms from mid c.note_copy.new.network.trace
     (not_empty_is (is_declared s) (not_empty s.buffer) c.requires ∙ sym c.if-not-has_primary.ensures)
-    (λ seat. subst (λ (n : ℕ). GoesOnWith from (Drawn seat n) mid) c.placed.ensures (c.drew.ensures.notes seat))
+    (λ seat. subst (λ (n : ℕ). GoesOnWith from (Drawn seat n) mid) (c.placed.ensures
+    ∙ ap (λ (s : SessionState). s.placed) c.transaction.ensures) (c.drew.ensures.notes seat))
     (c.note_copy.ensures.notes (declaration s.start s.placed s.buffer terms) c.declaration_of-copy.ensures)

@@ -2,7 +2,7 @@ use Rattle.std.proofs.Common.{◌≡◌, ◌<◌, ℕ, List, length, slice_get, 
 use Rattle.std.specs.Prelude.{IfNone}
 use Rattle.std.proofs.lemmas.List.{length-set}
 use Rattle.tx_engine.specs.declared.slots.SessionSlot.TheVariants.{Live, Lent}
-use Rattle.tx_engine.specs.Slots.{Kept, name_at, NamesNone}
+use Rattle.tx_engine.specs.Slots.{SlotContent, name_at, NamesNone}
 use Rattle.tx_engine.proofs.Engines.{named, back, not_live}
 use Rattle.tx_engine.proofs.slots.lend.Goals as goal
 
@@ -14,12 +14,13 @@ any_none (Some x) P p = tt
 pub returns-in_err-k-clause-none : goal.returns-in_err-k-clause-none
 returns-in_err-k-clause-none g c = any_none c.from_residual.result _ (
   refl,
-  subst (λ (ps : List Kept). NamesNone g.J.JournalId.bounds c.args.names.now ps c.args.name.now) c.deref.ensures.value
+  subst (λ (ps : List SlotContent). NamesNone g.J.JournalId.bounds c.args.names.now ps c.args.name.now)
+      c.deref.ensures.value
       c.in_err-k.ensures.none,
 )
 
 pub swap_slot-requires : goal.swap_slot-requires
-swap_slot-requires g c = subst (λ (ps : List Kept). c.in_ok-k.k
+swap_slot-requires g c = subst (λ (ps : List SlotContent). c.in_ok-k.k
     < length ps) c.deref.ensures.value c.in_ok-k.ensures.some.1
 
 pub returns-in-Live-clause-named : goal.returns-in-Live-clause-named
@@ -29,7 +30,7 @@ pub returns-in-Live-clause-lent : goal.returns-in-Live-clause-lent
 returns-in-Live-clause-lent g c =
     let slots = c.args.slots.now.items in
     let k = c.in_ok-k.k in
-    let within : k < length slots = subst (λ (ps : List Kept). k
+    let within : k < length slots = subst (λ (ps : List SlotContent). k
     < length ps) c.deref.ensures.value c.in_ok-k.ensures.some.1 in
     let lt : k < length c.swap_slot.new.slots.items = omega (
       arith,

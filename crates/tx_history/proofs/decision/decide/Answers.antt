@@ -27,7 +27,8 @@ returns-in-Err-Cycle c =
     let moved = c.in-Err-Cycle.ensures.same in
     let graph = c.in_ok-graph.ensures.graph in
     let found : IsCycle edges nodes = subst (IsUnordered edges) c.in-Err-Cycle.field-0-is c.in-Err-Cycle.ensures.err in
-    let there : IsCycle sorted nodes = cycle-permutation sorted edges nodes (IsPermutation-sym edges sorted moved) found in
+    let there : IsCycle sorted nodes =
+    cycle-permutation sorted edges nodes (IsPermutation-sym edges sorted moved) found in
     let short : IsCycle sorted least = c.in_ok-least-in-Err-Cycle.ensures.cycle
     (subst (IsCycle sorted) (sym c.as_slice-in-Err-Cycle.ensures.value) there) in
     let back : IsCycle edges least = cycle-permutation edges sorted least moved short in
@@ -43,8 +44,10 @@ returns-in-Ok c =
     let start : (t : ℕ) → t < r.txns → slice_index c.in_ok-starts-in-Ok.starts.items t ≡ slice_index places (2 * t) =
     λ t lt. c.in_ok-starts-in-Ok.ensures.each t lt ∙ ap (λ xs. slice_index xs (2 * t + 0)) c.as_slice.ensures.value
     ∙ ap (slice_index places) (let e : 2 * t + 0 ≡ 2 * t = omega arith in e) in
-    let commit : (t : ℕ) → t < r.txns → slice_index c.in_ok-commits-in-Ok.commits.items t ≡ slice_index places (2 * t + 1) =
-    λ t lt. c.in_ok-commits-in-Ok.ensures.each t lt ∙ ap (λ xs. slice_index xs (2 * t + 1)) c.as_slice-in-Ok.ensures.value in
+    let commit : (t : ℕ) → t < r.txns
+    → slice_index c.in_ok-commits-in-Ok.commits.items t ≡ slice_index places (2 * t + 1) =
+    λ t lt. c.in_ok-commits-in-Ok.ensures.each t lt
+    ∙ ap (λ xs. slice_index xs (2 * t + 1)) c.as_slice-in-Ok.ensures.value in
     record {
       assigned = c.orders_are_timestamps.ensures (history_of r) edges places
           c.in_ok-starts-in-Ok.starts.items c.in_ok-commits-in-Ok.commits.items (are_written r c.requires)

@@ -30,7 +30,8 @@ loop-i-preserved c =
     let some : P step = subst (λ r. IfSome r P) c.in-Some.is c.reason.ensures.some in
     record {
       each = grind (arith, common_steps, c.in_ok-push.ensures.items, inv.each);
-      holds = found_more (λ j d. IsDependency h d record { from = slice_index nodes j; to = next_of nodes j }) _ _ step i
+      holds = found_more (λ j d. IsDependency h d record { from = slice_index nodes j; to = next_of nodes j }) _ _ step
+          i
           c.in_ok-push.ensures.items inv.each inv.holds
           (subst (λ q. IsDependency h step record { from = slice_index nodes i; to = q }) c.next_of.ensures some);
     }

@@ -1,7 +1,7 @@
 -- None of the reads so far.
 use Rattle.std.proofs.Common.{ℕ, ◌<◌}
 use Rattle.tx_history.specs.Records.{writers_of}
-use Rattle.tx_history.specs.Adding.{IsNextEdge, read_at, before_edge}
+use Rattle.tx_history.specs.Additions.{IsNextEdge, read_at, before_edge}
 use Rattle.tx_history.proofs.dependency.rw.Given as goal
 
 abbrev pub invariant-loop-i : goal.invariant-loop-i

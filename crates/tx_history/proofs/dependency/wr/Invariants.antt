@@ -1,7 +1,7 @@
 -- None of the reads so far.
 use Rattle.std.proofs.Common.{ℕ, ◌<◌}
 use Rattle.tx_history.specs.Records.{writers_of}
-use Rattle.tx_history.specs.Adding.{IsSeenEdge, read_at, after_edge}
+use Rattle.tx_history.specs.Additions.{IsSeenEdge, read_at, after_edge}
 use Rattle.tx_history.proofs.dependency.wr.Given as goal
 
 abbrev pub invariant-loop-i : goal.invariant-loop-i

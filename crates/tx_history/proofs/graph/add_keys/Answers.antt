@@ -2,7 +2,7 @@
 use Rattle.std.proofs.Common.{◌≡◌, ◌<◌, length, arith}
 use Rattle.std.proofs.lemmas.Grind.{common_steps}
 use Rattle.tx_history.specs.Records.{writers_of}
-use Rattle.tx_history.specs.Adding.{Each, IsVersionEdge}
+use Rattle.tx_history.specs.Additions.{Each, IsVersionEdge}
 use Rattle.tx_history.proofs.Added.{one_more, up_to}
 use Rattle.tx_history.proofs.Graphs.{of_key, edges_of_key}
 use Rattle.tx_history.proofs.graph.add_keys.Goals as goal
@@ -28,7 +28,8 @@ pub returns-clause-added : goal.returns-clause-added
 returns-clause-added c =
     let r = c.args.recorded.now in
     let all : c.loop-key.key ≡ length r.heads.items = grind (arith, common_steps, c.len-key-end.ensures) in
-    up_to _ _ c.loop-key.key _ (λ k. Each (length (writers_of r k)) (IsVersionEdge (writers_of r k))) all c.loop-key.invariant.added
+    up_to _ _ c.loop-key.key _ (λ k. Each (length (writers_of r k)) (IsVersionEdge (writers_of r k))) all
+    c.loop-key.invariant.added
 
 pub returns-clause-few : goal.returns-clause-few
 returns-clause-few c =

@@ -1,7 +1,7 @@
 -- The edges of the keys so far.
 use Rattle.std.proofs.Common.{◌≡◌, ◌+◌, ◌<◌, ◌≤◌, length, slice_index}
 use Rattle.tx_history.specs.Records.{writers_of}
-use Rattle.tx_history.specs.Adding.{Adds, Each, IsVersionEdge}
+use Rattle.tx_history.specs.Additions.{Adds, Each, IsVersionEdge}
 use Rattle.tx_history.proofs.graph.add_keys.Given as goal
 
 abbrev pub invariant-loop-key : goal.invariant-loop-key

@@ -1,6 +1,6 @@
 -- One transaction more.
 use Rattle.std.proofs.Common.{◌≡◌, arith}
-use Rattle.tx_history.specs.Adding.{IsOwnEdge}
+use Rattle.tx_history.specs.Additions.{IsOwnEdge}
 use Rattle.tx_history.proofs.Added.{one_more, up_to, equal_edge}
 use Rattle.tx_history.proofs.graph.add_own.Goals as goal
 

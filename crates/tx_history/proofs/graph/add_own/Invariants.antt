@@ -1,6 +1,6 @@
 -- The edges of the transactions so far.
 use Rattle.std.proofs.Common.{◌≡◌, ◌+◌, length}
-use Rattle.tx_history.specs.Adding.{Adds, Each, IsOwnEdge}
+use Rattle.tx_history.specs.Additions.{Adds, Each, IsOwnEdge}
 use Rattle.tx_history.proofs.graph.add_own.Given as goal
 
 abbrev pub invariant-loop-txn : goal.invariant-loop-txn

@@ -1,7 +1,7 @@
 -- One pair more.
 use Rattle.std.proofs.Common.{◌≡◌, ◌<◌, length, arith}
 use Rattle.std.proofs.lemmas.Grind.{common_steps}
-use Rattle.tx_history.specs.Adding.{IsAfterEdge, pair_at}
+use Rattle.tx_history.specs.Additions.{IsAfterEdge, pair_at}
 use Rattle.tx_history.proofs.Added.{one_more, up_to, equal_edge}
 use Rattle.tx_history.proofs.Graphs.{of_pair}
 use Rattle.tx_history.proofs.graph.add_pairs.Goals as goal

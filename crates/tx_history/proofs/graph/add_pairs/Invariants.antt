@@ -1,6 +1,6 @@
 -- The edges of the pairs so far.
 use Rattle.std.proofs.Common.{◌≡◌, ◌+◌, length}
-use Rattle.tx_history.specs.Adding.{Adds, Each, IsAfterEdge, pair_at}
+use Rattle.tx_history.specs.Additions.{Adds, Each, IsAfterEdge, pair_at}
 use Rattle.tx_history.proofs.graph.add_pairs.Given as goal
 
 abbrev pub invariant-loop-i : goal.invariant-loop-i

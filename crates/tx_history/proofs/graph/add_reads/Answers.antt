@@ -2,7 +2,7 @@
 use Rattle.std.proofs.Common.{◌≡◌, ◌<◌, length, arith}
 use Rattle.std.proofs.lemmas.Grind.{common_steps}
 use Rattle.tx_history.specs.Records.{writers_of}
-use Rattle.tx_history.specs.Adding.{IsReadEdge, read_at}
+use Rattle.tx_history.specs.Additions.{IsReadEdge, read_at}
 use Rattle.tx_history.proofs.Added.{one_more, up_to}
 use Rattle.tx_history.proofs.Graphs.{of_read}
 use Rattle.tx_history.proofs.graph.add_reads.Goals as goal

@@ -1,7 +1,7 @@
 -- The edges of the reads so far.
 use Rattle.std.proofs.Common.{◌+◌, ◌*◌, ◌≤◌, length}
 use Rattle.tx_history.specs.Records.{writers_of}
-use Rattle.tx_history.specs.Adding.{Adds, Each, IsReadEdge, read_at}
+use Rattle.tx_history.specs.Additions.{Adds, Each, IsReadEdge, read_at}
 use Rattle.tx_history.proofs.graph.add_reads.Given as goal
 
 abbrev pub invariant-loop-i : goal.invariant-loop-i

@@ -1,6 +1,6 @@
 -- The edges of the versions so far.
 use Rattle.std.proofs.Common.{◌+◌, ◌≤◌, length}
-use Rattle.tx_history.specs.Adding.{Adds, Each, IsVersionEdge}
+use Rattle.tx_history.specs.Additions.{Adds, Each, IsVersionEdge}
 use Rattle.tx_history.proofs.graph.add_versions.Given as goal
 
 abbrev pub invariant-loop-i : goal.invariant-loop-i

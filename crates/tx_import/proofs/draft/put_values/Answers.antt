@@ -16,5 +16,6 @@ loop-name-preserved c =
           c.args.names.now c.loop-name.name-index n _ c.loop-name-test.true c.name-item.is grows named pushed before.0,
       grows_then c.args.values.now mid new before.1 grows,
       omega (arith, before.2, c.in_ok-number.ensures.few),
-      λ all. within_more mid new c.args.key c.loop-name.elements.items c.push.new.self.items n _ grows named pushed (before.3 all),
+      λ all. within_more mid new c.args.key c.loop-name.elements.items c.push.new.self.items n _ grows named pushed
+          (before.3 all),
     )

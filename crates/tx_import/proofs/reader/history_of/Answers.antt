@@ -4,7 +4,8 @@ use Rattle.tx_import.proofs.reader.history_of.Goals as goal
 
 pub returns-clause-recording : goal.returns-clause-recording
 returns-clause-recording c =
-    recorded c.args.draft _ c.requires.fits c.requires.few refl refl refl c.len-keys.ensures.len c.len-values.ensures.len
+    recorded c.args.draft _ c.requires.fits c.requires.few refl refl refl c.len-keys.ensures.len
+    c.len-values.ensures.len
 
 pub returns-clause-history : goal.returns-clause-history
 returns-clause-history c = λ said drafted. record {

@@ -30,6 +30,7 @@ returns-clause-turns g c =
     let found : said_in c.args.number line ≡ Ok said = search rules in
     let puts = c.in_ok-put.ensures in
     if_some _ (λ bytes read.
-    let turns : HistoryTurns bytes (g.R.Read.remaining c.read_line.new.reader) c.args.draft.now c.put.new.self c.args.number Put =
+    let turns : HistoryTurns bytes (g.R.Read.remaining c.read_line.new.reader) c.args.draft.now c.put.new.self
+    c.args.number Put =
     (line, read.0, said, read.1, read.3, found, record { adds = puts.said; grows = puts.grows; held_is = puts.held }) in
     turns) reads

@@ -16,7 +16,8 @@ lines-preserved g c =
       c.in_ok-next.ensures.early c.in-Put.is,
       omega (arith, c.in_ok-next.ensures.counts, c.lines.invariant.1),
       c.in_ok-next.ensures.fits,
-      if_some _ (λ input soon. put soon (g.R.Read.remaining c.next.new.reader) c.next.new.draft turns) c.lines.invariant.3,
+      if_some _ (λ input soon. put soon (g.R.Read.remaining c.next.new.reader) c.next.new.draft turns)
+          c.lines.invariant.3,
     )
 
 pub returns-in-Faulted-clause-read : goal.returns-in-Faulted-clause-read

@@ -9,4 +9,6 @@ pub resolve-requires-clause-told : goal.resolve-requires-clause-told
 resolve-requires-clause-told g c =
     let parts = c.into_parts-info.ensures.parts in
     let h = c.learn.new.self.events in
-    subst (WasToldOf h) (sym parts.0) (told_on c.args.met.events h (subst (λ (l : History). Begins l h) parts.1 c.learn.ensures.told) c.args.met.info c.into_parts-info.ensures.told)
+    subst (WasToldOf h) (sym parts.0) (told_on c.args.met.events h
+    (subst (λ (l : History). Begins l h) parts.1 c.learn.ensures.told) c.args.met.info
+    c.into_parts-info.ensures.told)

@@ -13,7 +13,8 @@ loop-t-preserved c =
     let told = c.note_one-is_new.new.told in
     subst (λ b. IsNoted f c.args.told.now told b (c.loop-t.t + 1)) (sym c.either-is_any.ensures)
     (next f c.args.told.now c.loop-t.told told c.loop-t.is_more c.note_one-is_new.result c.loop-t.t c.loop-t.invariant
-    (subst (λ n. c.loop-t.t < n) (sym c.loop-t.invariant.count) c.loop-t-test.true) c.note_one-is_new.ensures.yes c.note_one-is_new.ensures.no)
+    (subst (λ n. c.loop-t.t < n) (sym c.loop-t.invariant.count) c.loop-t-test.true) c.note_one-is_new.ensures.yes
+    c.note_one-is_new.ensures.no)
 
 pub returns-clause-told : goal.returns-clause-told
 returns-clause-told c =

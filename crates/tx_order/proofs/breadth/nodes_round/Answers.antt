@@ -19,9 +19,11 @@ loop-i-preserved c =
     record {
       len = grind (arith, common_steps, items, inv.len);
       from = noted (λ j x. x ≡ (edge_at edges (slice_index steps j)).from) _ _ _ i items inv.len inv.from refl;
-      linked = noted (λ j x. j + 1 < length steps → Contains edges record { from = x; to = (edge_at edges (slice_index steps (j + 1))).from })
+      linked = noted (λ j x. j + 1 < length steps
+          → Contains edges record { from = x; to = (edge_at edges (slice_index steps (j + 1))).from })
           _ _ _ i items inv.len inv.linked (λ more. joins_at edges s next _ lt same (c.next_of-next.ensures.next more));
-      last = noted (λ j x. length steps ≤ j + 1 → Contains edges record { from = x; to = (edge_at edges (slice_index steps 0)).from })
+      last = noted (λ j x. length steps ≤ j + 1
+          → Contains edges record { from = x; to = (edge_at edges (slice_index steps 0)).from })
           _ _ _ i items inv.len inv.last (λ end. joins_at edges s next _ lt same (c.next_of-next.ensures.first end));
     }
 

@@ -24,7 +24,8 @@ if_ok_map P Q (Ok a) f h = f a h
 if_ok_map P Q (Err e) f h = h
 
 -- a cycle of the sorted edges' slice is one of the edges that were passed, and back
-as_passed : (xs ys zs : List Edge) (old new : List ℕ) → IsPermutation xs ys → zs ≡ ys → (IsCycle zs old → IsCycle zs new)
+as_passed : (xs ys zs : List Edge) (old new : List ℕ) → IsPermutation xs ys → zs ≡ ys
+    → (IsCycle zs old → IsCycle zs new)
     → IsCycle xs old → IsCycle xs new
 as_passed xs ys zs old new p e f h =
     cycle-permutation xs ys new p (subst (λ es. IsCycle es new) e

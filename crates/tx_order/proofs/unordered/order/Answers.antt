@@ -30,10 +30,12 @@ if_err_map P Q (Ok a) f h = h
 if_err_map P Q (Err e) f h = f e h
 
 -- the edges as they were passed, as they were sorted, and the slice of these
-as_passed : (n : ℕ) (xs ys zs : List Edge) (places : List ℕ) → IsPermutation xs ys → zs ≡ ys → IsOrder n zs places → IsOrder n xs places
+as_passed : (n : ℕ) (xs ys zs : List Edge) (places : List ℕ) → IsPermutation xs ys → zs ≡ ys → IsOrder n zs places
+    → IsOrder n xs places
 as_passed n xs ys zs places p e h = order-permutation n xs ys places p (subst (λ es. IsOrder n es places) e h)
 
-passed_too : (xs ys zs : List Edge) (e : Unordered) → IsPermutation xs ys → zs ≡ ys → IsUnordered zs e → IsUnordered xs e
+passed_too : (xs ys zs : List Edge) (e : Unordered) → IsPermutation xs ys → zs ≡ ys → IsUnordered zs e
+    → IsUnordered xs e
 passed_too xs ys zs e p is h = unordered-permutation xs ys e p (subst (λ es. IsUnordered es e) is h)
 
 pub returns-clause-ok : goal.returns-clause-ok

@@ -10,7 +10,8 @@ returns-in-Some-clause-err c =
     let s = c.meet_all.new.self in
     let back = c.in_ok-place.ensures.back c.in-Some.place c.in-Some.is in
     subst (IsCycle c.args.edges.now) (sym c.in_ok-path_from-in-Some.ensures)
-    (closed c.args.edges.now s.marks.items s.path.items s.done c.in-Some.place c.in_ok-place.ensures.search back.0 back.1)
+    (closed c.args.edges.now s.marks.items s.path.items s.done c.in-Some.place c.in_ok-place.ensures.search back.0
+    back.1)
 
 pub returns-clause-ok : goal.returns-clause-ok
 returns-clause-ok c =

@@ -1,5 +1,5 @@
 use Rattle.std.proofs.Common.{◌≡◌}
-use Rattle.tx_plan.specs.Collecting.{past}
+use Rattle.tx_plan.specs.Collection.{past}
 use Rattle.tx_plan.proofs.Collects.{CollectedTo}
 use Rattle.tx_plan.proofs.key_records.collect_key.Given as goal
 

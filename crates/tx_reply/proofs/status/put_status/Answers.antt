@@ -11,4 +11,6 @@ unfolding escape_byte
 returns-in-Committed c =
     let old = c.args.out.now.items in
     on_ok c.put_stamped.result c.put_stamped.ensures
-    (λ e. e ∙ committed_is old c.get.result ∙ ap (λ n. old ++ members_text (status_words (status.Committed n))) c.get.ensures ∙ ap (λ s. old ++ members_text (status_words s)) (sym c.in-Committed.is))
+    (λ e. e ∙ committed_is old c.get.result
+    ∙ ap (λ n. old ++ members_text (status_words (status.Committed n))) c.get.ensures
+    ∙ ap (λ s. old ++ members_text (status_words s)) (sym c.in-Committed.is))

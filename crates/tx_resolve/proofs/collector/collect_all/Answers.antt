@@ -1,6 +1,6 @@
 use Rattle.std.proofs.Common.{◌+◌, ℕ, length, Ok, Err, subst}
 use Rattle.tx_client.specs.Walks.{Sends}
-use Rattle.tx_resolve.specs.Collecting.{collect_walk, collects_walk}
+use Rattle.tx_resolve.specs.Collection.{collect_walk, collects_walk}
 use Rattle.tx_resolve.proofs.Regions.{is_fault, is_region, more_regions, regions_refused}
 use Rattle.tx_resolve.proofs.collector.collect_all.Goals as goal
 

@@ -1,6 +1,6 @@
 use Rattle.std.proofs.Common.{◌+◌, ℕ, length, Ok, Err, subst}
 use Rattle.tx_client.specs.Walks.{Sends}
-use Rattle.tx_resolve.specs.Collecting.{raise_walk, raises_walk}
+use Rattle.tx_resolve.specs.Collection.{raise_walk, raises_walk}
 use Rattle.tx_resolve.proofs.Regions.{is_fault, is_region, more_regions, regions_refused}
 use Rattle.tx_resolve.proofs.collector.raise_all.Goals as goal
 

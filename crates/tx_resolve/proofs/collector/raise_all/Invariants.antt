@@ -1,7 +1,7 @@
 use Rattle.std.proofs.Common.{◌+◌, ◌-◌, length}
 use Rattle.tx_core.specs.Worlds.{IsWorldRun}
 use Rattle.tx_client.specs.Walks.{Continues}
-use Rattle.tx_resolve.specs.Collecting.{in_regions, raise_walk, raises_walk}
+use Rattle.tx_resolve.specs.Collection.{in_regions, raise_walk, raises_walk}
 use Rattle.tx_resolve.proofs.collector.raise_all.Given as goal
 
 -- the regions that are left

@@ -1,6 +1,6 @@
 use Rattle.std.proofs.Common.{◌+◌, drop, refl}
-use Rattle.tx_resolve.specs.Collecting.{locks_walk}
-use Rattle.tx_resolve.specs.Resolving.{resolve_walk}
+use Rattle.tx_resolve.specs.Collection.{locks_walk}
+use Rattle.tx_resolve.specs.Resolution.{resolve_walk}
 use Rattle.tx_resolve.specs.declared.found.For.TheVariants.{Collector}
 use Rattle.tx_resolve.proofs.Knowing.{told_on, sent_more}
 use Rattle.tx_resolve.proofs.Others.{next_of}

@@ -4,7 +4,7 @@ use Rattle.tx_types.specs.declared.lock.LockInfo.{LockInfo}
 use Rattle.tx_core.specs.Worlds.{IsWorldRun}
 use Rattle.tx_core.specs.Laws.{WasToldOf}
 use Rattle.tx_client.specs.Walks.{Continues}
-use Rattle.tx_resolve.specs.Collecting.{locks_walk}
+use Rattle.tx_resolve.specs.Collection.{locks_walk}
 use Rattle.tx_resolve.proofs.collector.resolve_each.Given as goal
 
 -- the locks that are left, and that they were told of

@@ -5,7 +5,7 @@ use Rattle.tx_core.specs.Allowed.{Allowed}
 use Rattle.tx_journal.specs.Senders.{IsHeld}
 use Rattle.tx_client.specs.Facts.{RespondsSo}
 use Rattle.tx_client.proofs.Calling.{held_at}
-use Rattle.tx_resolve.specs.Resolving.{other_of}
+use Rattle.tx_resolve.specs.Resolution.{other_of}
 use Rattle.tx_resolve.specs.Facts.{IsOther}
 use Rattle.tx_resolve.proofs.Knowing.{knows_on, asked_more}
 use Rattle.tx_resolve.proofs.Finding.{other_ok}

@@ -3,7 +3,7 @@ use Rattle.tx_types.specs.declared.key.Key.{Key}
 use Rattle.tx_types.specs.declared.lock.LockInfo.{LockInfo}
 use Rattle.tx_client.specs.Walks.{Sends, Continues}
 use Rattle.tx_resolve.specs.declared.found.Other.TheVariants as other
-use Rattle.tx_resolve.specs.Resolving.{other_walk, others_walk}
+use Rattle.tx_resolve.specs.Resolution.{other_walk, others_walk}
 use Rattle.tx_resolve.specs.Facts.{HadLocks}
 use Rattle.tx_resolve.proofs.Knowing.{sent_more}
 use Rattle.tx_resolve.proofs.Allowing.{other_allowed}

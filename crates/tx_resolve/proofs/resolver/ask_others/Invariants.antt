@@ -1,6 +1,6 @@
 use Rattle.std.proofs.Common.{take, drop}
 use Rattle.tx_client.specs.Walks.{Continues}
-use Rattle.tx_resolve.specs.Resolving.{others_walk}
+use Rattle.tx_resolve.specs.Resolution.{others_walk}
 use Rattle.tx_resolve.specs.Facts.{Knows, IsPrimarysLock, HadLocks}
 use Rattle.tx_resolve.proofs.resolver.ask_others.Given as goal
 

@@ -1,5 +1,5 @@
 use Rattle.tx_client.proofs.Looking.{sent_then}
-use Rattle.tx_resolve.specs.Resolving.{others_walk, after_others}
+use Rattle.tx_resolve.specs.Resolution.{others_walk, after_others}
 use Rattle.tx_resolve.proofs.resolver.pursue.Goals as goal
 
 pub returns-clause-sends : goal.returns-clause-sends

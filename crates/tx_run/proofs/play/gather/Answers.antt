@@ -35,7 +35,8 @@ join-requires-clause-tells g c = c.loop-output.invariant.left.tells
 pub join-requires-clause-above : goal.join-requires-clause-above
 join-requires-clause-above g c =
     first_above g.L.Source.text g.J.JournalId.bounds c.loop-output.seat.events c.loop-output.replies c.in-Some.output _
-    (subst (AreLeft g.L.Source.text g.J.JournalId.bounds c.loop-output.seat.events c.loop-output.replies) c.in-Some.ensures.steps.0
+    (subst (AreLeft g.L.Source.text g.J.JournalId.bounds c.loop-output.seat.events c.loop-output.replies)
+    c.in-Some.ensures.steps.0
     c.loop-output.invariant.left)
 
 pub loop-output-preserved : goal.loop-output-preserved

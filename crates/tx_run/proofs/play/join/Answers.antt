@@ -70,7 +70,8 @@ returns-clause-tells g c =
     let knows = subst (λ (h : History). Begins h now) c.into_parts-told.ensures.parts.0 c.learn.ensures.told in
     let all = c.in_ok-add.ensures ∙ ap (λ (l : List LineReply). xs ++ l) c.into_parts-told.ensures.parts.1 in
     subst (λ (l : List LineReply). All (TellsLine source bounds now) l) (sym all)
-    (All-append (TellsLine source bounds now) xs log.replies (lines_tell_on source bounds old now more xs c.requires.tells)
+    (All-append (TellsLine source bounds now) xs log.replies
+    (lines_tell_on source bounds old now more xs c.requires.tells)
     (lines_tell_on source bounds log.told now knows log.replies c.into_parts-told.ensures.tells))
 
 pub returns-clause-joins : goal.returns-clause-joins

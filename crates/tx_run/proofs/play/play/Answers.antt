@@ -4,7 +4,7 @@ use Rattle.tx_core.specs.Histories.{History}
 use Rattle.tx_run.specs.declared.reply.LineReply.{LineReply}
 use Rattle.tx_run.specs.Answers.{numbers_of}
 use Rattle.tx_run.specs.Jobs.{AreGathered, ComesOf}
-use Rattle.tx_run.specs.Reading.{opening_of}
+use Rattle.tx_run.specs.ScriptLines.{opening_of}
 use Rattle.tx_run.specs.Tells.{TellsLine}
 use Rattle.tx_run.specs.LineNumbers.{numbers_in}
 use Rattle.tx_run.proofs.Gathering.{faults, gathered_on}
@@ -33,7 +33,7 @@ gather-requires-clause-tells g c =
     let h = c.in_ok-seat.seat.events in
     let all = c.in_ok-add.ensures ∙ ap (λ (l : List LineReply). l ++ items) c.new-replies.ensures in
     subst (λ (l : List LineReply). All (TellsLine g.L.Source.text g.J.JournalId.bounds h) l) (sym all)
-    (c.in_ok-seat.ensures.tells h)
+    c.in_ok-seat.ensures.tells
 
 pub returns-clause-tells : goal.returns-clause-tells
 returns-clause-tells g c =

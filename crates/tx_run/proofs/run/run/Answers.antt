@@ -1,6 +1,7 @@
 use Rattle.std.proofs.Common.{map}
 use Rattle.tx_run.specs.LineNumbers.{numbers_in}
-use Rattle.tx_run.proofs.Evidence.{all_tell, opens_with, own_lines}
+use Rattle.tx_run.proofs.Evidence.{all_tell, opens_with}
+use Rattle.tx_run.proofs.OwnLines.{own_lines}
 use Rattle.tx_run.proofs.Keeping.{comes_of_text}
 use Rattle.tx_run.proofs.Writing.{from_played, on_any_err}
 use Rattle.tx_run.proofs.run.run.Goals as goal

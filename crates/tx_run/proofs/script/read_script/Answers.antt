@@ -1,10 +1,10 @@
 use Rattle.std.proofs.Common.{◌≡◌, ◌+◌, sym, subst, map, List, ℕ, None, Result, OnOk, vec_len, arith}
 use Rattle.std.specs.BTreeMap.{get_by_text}
 use Rattle.tx_types.specs.declared.fault.Cause.{Cause}
-use Rattle.tx_run.specs.Faults.{Takes, fault_of}
+use Rattle.tx_run.specs.Faults.{TakesLine, fault_of}
 use Rattle.tx_transfer.specs.Sources.{HasLine}
 use Rattle.tx_run.specs.LineNumbers.{numbers_in}
-use Rattle.tx_run.specs.Reading.{KeepsText}
+use Rattle.tx_run.specs.ScriptLines.{KeepsText}
 use Rattle.tx_run.specs.Readers.{HasSorted}
 use Rattle.tx_run.proofs.Keeping.{before_whole}
 use Rattle.tx_run.proofs.Sourcing.{stands_first, line_read, stands_next, so_far_first, so_far_next, so_far_whole, long_fault, take_fault, few_lines}
@@ -38,7 +38,7 @@ loop-number-preserved g c =
     (line_read source (g.B.Read.remaining c.loop-number.reader) (g.B.Read.remaining c.read_line.new.reader) number
     c.read_line.new.line.items c.loop-number.invariant.stands reads) in
     let none : fault_of number line ≡ None =
-    subst (λ (r : Result (Unit {0}) Cause). Takes number line (vec_len c.loop-number.reading.script.sessions) r)
+    subst (λ (r : Result (Unit {0}) Cause). TakesLine number line (vec_len c.loop-number.reading.script.sessions) r)
     c.in_default.is c.in_ok-cause-in-Line.ensures.takes in
     record {
       within = c.in_ok-cause-in-Line.ensures.within;

@@ -4,7 +4,7 @@ use Rattle.tx_run.specs.declared.reply.LineAnswer.TheVariants.{Plain}
 use Rattle.tx_run.specs.declared.reply.LineReply.{LineReply}
 use Rattle.tx_run.specs.Answers.{IsReply, numbers_of}
 use Rattle.tx_run.specs.Tells.{TellsLine}
-use Rattle.tx_run.proofs.Evidence.{bare_tells}
+use Rattle.tx_run.proofs.Evidence.{lines_tell_on}
 use Rattle.tx_run.proofs.Seeding.{one_more}
 use Rattle.tx_run.proofs.seeds.play_seeds.Goals as goal
 
@@ -16,15 +16,17 @@ loop-line-preserved g c =
     let line = c.line-item.result in
     let plain = c.play-next.result.1 in
     let old = c.loop-line.replies.items in
+    let h = c.play-next.result.0.events in
     let x : LineReply = record { number = line.number; answer = Plain (Ok plain) } in
     let items = c.push.ensures.items
     ∙ ap (λ (b : Bool). if b then old ++ x ∷ [] else old) (c.is_err.ensures.negation ∙ ap not c.if-is_err.false) in
     record {
       quiet = subst (λ (l : List LineReply). All (λ s. IsReply s.answer) l) (sym items)
           (All-push (λ s. IsReply s.answer) old x before.quiet (refl, refl));
-      tells = λ h. subst (λ (l : List LineReply). All (TellsLine source bounds h) l) (sym items)
-          (All-push (TellsLine source bounds h) old x (before.tells h)
-          (bare_tells source bounds h line.number plain line.says c.play-next.ensures));
+      tells = subst (λ (l : List LineReply). All (TellsLine source bounds h) l) (sym items)
+          (All-push (TellsLine source bounds h) old x
+          (lines_tell_on source bounds c.loop-line.seat.events h c.play-next.ensures.knows old before.tells)
+          c.play-next.ensures.tells);
       each = one_more (λ line. line.number) (numbers_of c.args.replies.now.items) c.args.seeds.now
           c.loop-line.line-index line old c.push.new.self.items x (omega (arith, c.loop-line-test.true)) c.line-item.is
           items refl before.each;

@@ -1,5 +1,4 @@
 use Rattle.std.proofs.Common.{◌≡◌, ◌++◌, All, map, take}
-use Rattle.tx_core.specs.Histories.{History}
 use Rattle.tx_run.specs.Answers.{IsReply, numbers_of}
 use Rattle.tx_run.specs.Tells.{TellsLine}
 use Rattle.tx_run.proofs.seeds.play_seeds.Given as goal
@@ -7,7 +6,7 @@ use Rattle.tx_run.proofs.seeds.play_seeds.Given as goal
 abbrev pub invariant-loop-line : goal.invariant-loop-line
 invariant-loop-line g l = record {
   quiet : All (λ s. IsReply s.answer) l.replies.items;
-  tells : (h : History) → All (TellsLine g.L.Source.text g.J.JournalId.bounds h) l.replies.items;
+  tells : All (TellsLine g.L.Source.text g.J.JournalId.bounds l.seat.events) l.replies.items;
   each : numbers_of l.replies.items
       ≡ numbers_of l.fn.replies.items ++ map (λ line. line.number) (take l.line-index l.seeds);
 }

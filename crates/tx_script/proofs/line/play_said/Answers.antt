@@ -12,4 +12,4 @@ returns-then-branch-clause-goes g c =
     says_so bounds e (λ refused. value_turn bounds refused c.args.number (data_of c.args.said.now))
     (Regions c.regions.result)
     (λ later. regions_turn bounds later c.args.number (data_of c.args.said.now) e c.regions.result c.if-number-eq1.true
-    (sym c.in_ok-says_regions.ensures ∙ c.if-branch.true) c.regions.ensures)
+    (sym c.in_ok-says_regions.ensures.ok ∙ c.if-branch.true) c.regions.ensures)

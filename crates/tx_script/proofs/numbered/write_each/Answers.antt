@@ -32,7 +32,9 @@ returns-in_err-put_step_beside-clause-part g c =
     let s = c.in-Some.step.now in
     let first : iter_rest (zip_first c.into_iter-number-iterator.result) ≡ ns = first_of (search rules, cc) in
     let second : iter_rest (zip_second c.into_iter-number-iterator.result) ≡ ss = first_of (search rules, cc) in
-    let turn = zip_turn ns ss xs c.into_iter-number-iterator.result c.steps.number-iterator c.next.new.self c.next.result first second c.steps.yielded_by (c.in-Some.number, c.in-Some.step) c.in-Some.is
+    let turn = zip_turn ns ss xs c.into_iter-number-iterator.result
+    c.steps.number-iterator c.next.new.self c.next.result first second c.steps.yielded_by
+    (c.in-Some.number, c.in-Some.step) c.in-Some.is
     c.next.ensures.steps in
     let within : length xs < length (zip ns ss) = omega (arith, length-zip ns ss, turn.0, turn.1) in
     let item : get_or (zip ns ss) (length xs) (n, s) ≡ (n, s) =
@@ -49,7 +51,9 @@ returns-in_err-send-clause-part g c =
     let s = c.in-Some.step.now in
     let first : iter_rest (zip_first c.into_iter-number-iterator.result) ≡ ns = first_of (search rules, cc) in
     let second : iter_rest (zip_second c.into_iter-number-iterator.result) ≡ ss = first_of (search rules, cc) in
-    let turn = zip_turn ns ss xs c.into_iter-number-iterator.result c.steps.number-iterator c.next.new.self c.next.result first second c.steps.yielded_by (c.in-Some.number, c.in-Some.step) c.in-Some.is
+    let turn = zip_turn ns ss xs c.into_iter-number-iterator.result
+    c.steps.number-iterator c.next.new.self c.next.result first second c.steps.yielded_by
+    (c.in-Some.number, c.in-Some.step) c.in-Some.is
     c.next.ensures.steps in
     let within : length xs < length (zip ns ss) = omega (arith, length-zip ns ss, turn.0, turn.1) in
     let item : get_or (zip ns ss) (length xs) (n, s) ≡ (n, s) =
@@ -73,7 +77,9 @@ steps-preserved g c =
     let s = c.in-Some.step.now in
     let first : iter_rest (zip_first c.into_iter-number-iterator.result) ≡ ns = first_of (search rules, cc) in
     let second : iter_rest (zip_second c.into_iter-number-iterator.result) ≡ ss = first_of (search rules, cc) in
-    let turn = zip_turn ns ss xs c.into_iter-number-iterator.result c.steps.number-iterator c.next.new.self c.next.result first second c.steps.yielded_by (c.in-Some.number, c.in-Some.step) c.in-Some.is
+    let turn = zip_turn ns ss xs c.into_iter-number-iterator.result
+    c.steps.number-iterator c.next.new.self c.next.result first second c.steps.yielded_by
+    (c.in-Some.number, c.in-Some.step) c.in-Some.is
     c.next.ensures.steps in
     let within : length xs < length (zip ns ss) = omega (arith, length-zip ns ss, turn.0, turn.1) in
     let item : get_or (zip ns ss) (length xs) (n, s) ≡ (n, s) =
@@ -97,7 +103,9 @@ returns-clause-all g c =
     let first : iter_rest (zip_first c.into_iter-number-iterator.result) ≡ ns = first_of (search rules, cc) in
     let second : iter_rest (zip_second c.into_iter-number-iterator.result) ≡ ss = first_of (search rules, cc) in
     let all : length xs ≡ min (length ns) (length ss) =
-    zip_end ns ss xs c.into_iter-number-iterator.result c.steps.number-iterator c.next.new.self c.next.result first second c.steps.yielded_by c.in-None.is c.next.ensures.steps in
+    zip_end ns ss xs c.into_iter-number-iterator.result
+    c.steps.number-iterator c.next.new.self c.next.result first second c.steps.yielded_by c.in-None.is
+    c.next.ensures.steps in
     subst (λ ps. Appends (g.W.Write.contents c.args.writer.now) (g.W.Write.contents c.steps.writer)
     (concat (map beside_text ps))) (take_all (length xs) (zip ns ss) (omega (arith, length-zip ns ss, all)))
     c.steps.invariant

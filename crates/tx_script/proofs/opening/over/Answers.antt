@@ -62,7 +62,8 @@ returns-in-Steps-clause-breaks g c = then_err _ _ c.check_over.result c.check_ov
 pub returns-in-NumberedSteps-clause-ends : goal.returns-in-NumberedSteps-clause-ends
 returns-in-NumberedSteps-clause-ends g c = then_ok _ _ c.number_over.result c.number_over.ensures.ends
     (λ end h lines a. subst (λ (b : Asked). EndsAsked b c.args.opened.bounds lines
-    (g.W.Write.contents c.args.writer.now) (g.W.Write.contents c.number_over.new.writer) end) (sym c.in-NumberedSteps.is)
+    (g.W.Write.contents c.args.writer.now) (g.W.Write.contents c.number_over.new.writer) end)
+    (sym c.in-NumberedSteps.is)
     (subst (λ (bounds : List Key). EndsNumberedLines bounds lines (g.W.Write.contents c.args.writer.now)
     (g.W.Write.contents c.number_over.new.writer) end) (sym c.requires.named.1) (h lines a)))
 

@@ -5,7 +5,7 @@ use Rattle.tx_text.specs.declared.end.Broken.{Broken}
 use Rattle.tx_engine.specs.Slots.{Held, own, Goes}
 use Rattle.tx_network.specs.Networks.{IsTraced}
 use Rattle.tx_script.specs.declared.line.Turned.TheVariants as turned
-use Rattle.tx_script.specs.Loops.{FoundTurned, FitsFound, Kept}
+use Rattle.tx_script.specs.Loops.{FoundTurned, FitsFound, BetweenLines}
 use Rattle.tx_script.proofs.Scripts.{counts_first, kept, ready, still, kept_after, traced_on, if_err_is, if_any_err}
 use Rattle.tx_script.proofs.Lines.{AllBreak, on_first, break_before, end_well, end_broken, fault_ends, fault_breaks, fault_breaks_last, reply_breaks, read_breaks, on_next}
 use Rattle.tx_script.proofs.NumberedLines.{numbers_first, numbers_next, numbers_end}
@@ -53,7 +53,8 @@ play_found-requires g c = record {
 }
 
 pub returns-in_err-play_found-clause-kept : goal.returns-in_err-play_found-clause-kept
-returns-in_err-play_found-clause-kept g c = subst (Kept g.J.JournalId.bounds) (sym c.in_err-play_found.ensures.same)
+returns-in_err-play_found-clause-kept g c =
+    subst (BetweenLines g.J.JournalId.bounds) (sym c.in_err-play_found.ensures.same)
     (kept g.J.JournalId.bounds c.lines.number c.lines.engine c.lines.invariant.0)
 
 pub returns-in_err-play_found-clause-breaks : goal.returns-in_err-play_found-clause-breaks

@@ -17,7 +17,8 @@ returns-then-first-second c =
     c.cmp.ensures
     ∙ ap (λ n. nat_cmp n c.read_u64-second.result) first
     ∙ ap (nat_cmp (big_number 8 x)) second
-    ∙ sym (words_unequal x y kept.0 kept.1 c.words-test.true c.if-y-ge-WORD.true (λ e. c.if-first-second.true (first ∙ e ∙ sym second)))
+    ∙ sym (words_unequal x y kept.0 kept.1 c.words-test.true c.if-y-ge-WORD.true
+    (λ e. c.if-first-second.true (first ∙ e ∙ sym second)))
     ∙ sym kept.2
 
 pub words-preserved : goal.words-preserved
@@ -28,5 +29,6 @@ words-preserved c =
     rw (rest_is x, rest_is y) (
       AreBytes-drop 8 x kept.0,
       AreBytes-drop 8 y kept.1,
-      kept.2 ∙ words_equal x y kept.0 kept.1 c.words-test.true c.if-y-ge-WORD.true (sym c.read_u64-first.ensures ∙ c.if-first-second.false ∙ c.read_u64-second.ensures),
+      kept.2 ∙ words_equal x y kept.0 kept.1 c.words-test.true c.if-y-ge-WORD.true (sym c.read_u64-first.ensures
+          ∙ c.if-first-second.false ∙ c.read_u64-second.ensures),
     )

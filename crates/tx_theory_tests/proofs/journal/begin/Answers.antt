@@ -10,4 +10,6 @@ record_begin-requires g c =
     let start = c.in-Ok.start in
     let new = c.draw.new.self in
     let seat = c.args.seat in
-    subst (λ n. MayRecord bounds n new.events (Began start)) (sym c.draw.ensures.seat) (may_begin_there bounds seat.seat seat.events new.events 1 start c.in-Ok.ensures.drawn)
+    subst (λ n. MayRecord bounds n new.events (Began start))
+    (sym c.draw.ensures.seat)
+    (may_begin_there bounds seat.seat seat.events new.events 1 start c.in-Ok.ensures.drawn)

@@ -8,5 +8,7 @@ pub loop-i-preserved : goal.loop-i-preserved
 loop-i-preserved c =
     let lt : c.loop-i.i < length c.args.buffer.now = omega (arith, c.len-i-end.ensures.len) in
     let next : suc c.loop-i.i ≡ c.loop-i.i + 1 = omega arith in
-    let parts : ◌≡◌ {A = Change} (record { key = c.in_ok-key.key; mutation = c.in_ok-mutation.mutation }) _ = λ j. record { key = c.in_ok-key.ensures.ok j; mutation = c.in_ok-mutation.ensures.ok j } in
-    c.in_ok-push.ensures.ok ∙ (λ j. c.loop-i.invariant j ++ parts j ∷ []) ∙ sym (front_more c.loop-i.i c.args.buffer.now lt) ∙ ap (λ n. changes_of (take n c.args.buffer.now)) next
+    let parts : ◌≡◌ {A = Change} (record { key = c.in_ok-key.key; mutation = c.in_ok-mutation.mutation }) _ =
+    λ j. record { key = c.in_ok-key.ensures.ok j; mutation = c.in_ok-mutation.ensures.ok j } in
+    c.in_ok-push.ensures.ok ∙ (λ j. c.loop-i.invariant j ++ parts j ∷ [])
+    ∙ sym (front_more c.loop-i.i c.args.buffer.now lt) ∙ ap (λ n. changes_of (take n c.args.buffer.now)) next

@@ -10,4 +10,5 @@ returns-then-is_two_phase c =
     sym (two_phase_there c.args.buffer.now c.loop-i.i lt here)
 
 pub returns : goal.returns
-returns c = sym (two_phase_nowhere c.args.buffer.now (λ k lt. c.loop-i.invariant k (omega (arith, c.len-i-end.ensures.len))))
+returns c = sym (two_phase_nowhere c.args.buffer.now
+    (λ k lt. c.loop-i.invariant k (omega (arith, c.len-i-end.ensures.len))))

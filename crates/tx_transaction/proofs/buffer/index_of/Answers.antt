@@ -11,4 +11,5 @@ returns-then-wants_more-clause-index c =
 
 pub returns-clause-index : goal.returns-clause-index
 returns-clause-index c =
-    sym (place_none 0 c.args.phase c.args.buffer.now (λ k lt. c.loop-i.invariant k (omega (arith, c.len-i-end.ensures.len))))
+    sym (place_none 0 c.args.phase c.args.buffer.now
+    (λ k lt. c.loop-i.invariant k (omega (arith, c.len-i-end.ensures.len))))

@@ -3,4 +3,5 @@ use Rattle.tx_transaction.proofs.Places.{pair_at}
 use Rattle.tx_transaction.proofs.buffer.key_at.Goals as goal
 
 pub returns : goal.returns
-returns c = sym ((pair_at c.args.buffer.now c.args.i (c.in-Some.key.now, c.in-Some.field-0-1.now) c.in-Some.ensures.entry).0)
+returns c = sym ((pair_at c.args.buffer.now c.args.i (c.in-Some.key.now, c.in-Some.field-0-1.now)
+    c.in-Some.ensures.entry).0)

@@ -2,4 +2,6 @@ use Rattle.tx_transaction.proofs.Places.{pair_at}
 use Rattle.tx_transaction.proofs.buffer.mutation_of.Goals as goal
 
 pub returns-clause-ok : goal.returns-clause-ok
-returns-clause-ok c = rw ((pair_at c.args.buffer.now c.args.i (c.in-Some.field-0-0.now, c.in-Some.entry.now) c.in-Some.ensures.entry).1) c.clone.ensures.ok
+returns-clause-ok c = rw
+    ((pair_at c.args.buffer.now c.args.i (c.in-Some.field-0-0.now, c.in-Some.entry.now) c.in-Some.ensures.entry).1)
+    c.clone.ensures.ok

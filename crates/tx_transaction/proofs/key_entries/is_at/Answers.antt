@@ -4,4 +4,6 @@ use Rattle.tx_transaction.proofs.key_entries.is_at.Goals as goal
 
 pub returns : goal.returns
 returns c =
-    c.eq.ensures ∙ ap (λ k. bytes_eq k c.args.key.now) (c.as_bytes.ensures.value ∙ key_of_item c.args.few.now c.args.i c.in-Some.field-0.now c.requires c.in-Some.ensures.lookup.1)
+    c.eq.ensures ∙ ap (λ k. bytes_eq k c.args.key.now)
+    (c.as_bytes.ensures.value
+    ∙ key_of_item c.args.few.now c.args.i c.in-Some.field-0.now c.requires c.in-Some.ensures.lookup.1)

@@ -5,4 +5,5 @@ use Rattle.tx_transfer.proofs.balance.value_of.Goals as goal
 
 pub returns-in-Ok-clause-says : goal.returns-in-Ok-clause-says
 returns-in-Ok-clause-says c =
-    ap balance_of (c.in-Ok.ensures.ok ∙ c.as_bytes.ensures.value ∙ c.format.ensures.text) ∙ decimal_says c.args.balance c.requires
+    ap balance_of (c.in-Ok.ensures.ok ∙ c.as_bytes.ensures.value ∙ c.format.ensures.text)
+    ∙ decimal_says c.args.balance c.requires

@@ -12,7 +12,8 @@ pub loop-pages-init : goal.loop-pages-init
 loop-pages-init g c = record {
   start = refl;
   knows = begins_all c.args.session.now.seat.events;
-  read = subst (λ (k : Key). HasReadTo g.J.JournalId.bounds c.args.session.now.seat.events c.args.session.now.state.start
+  read = subst (λ (k : Key). HasReadTo g.J.JournalId.bounds c.args.session.now.seat.events
+      c.args.session.now.state.start
       k 0) (sym c.in_ok-from.ensures.ok)
       (none_read g.J.JournalId.bounds c.args.session.now.state.start c.args.session.now.seat.events);
   most = omega arith;

@@ -9,5 +9,11 @@ returns-else-at-both c =
     let b = c.args.b.now in
     let at = c.bytes.at in
     let least = c.min-both.ensures in
-    let one : (length a ≡ at) ⊎ (length b ≡ at) = elim (cases_lt (length a) (length b)) [ inl l ↦ inl (omega (arith, least, l)) | inr g ↦ inr (omega (arith, least, g)) ] in
-    c.cmp-else-at-both.ensures ∙ sym (lengths_decide a b at (omega (arith, least)) (omega (arith, least)) one) ∙ sym c.bytes.invariant.1
+    let one : (length a ≡ at) ⊎ (length b ≡ at) =
+    elim (cases_lt (length a) (length b)) [
+      | inl l ↦ inl (omega (arith, least, l))
+      | inr g ↦
+          inr (omega (arith, least, g))
+    ] in
+    c.cmp-else-at-both.ensures ∙ sym (lengths_decide a b at (omega (arith, least)) (omega (arith, least)) one)
+    ∙ sym c.bytes.invariant.1

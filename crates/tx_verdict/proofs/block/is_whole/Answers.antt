@@ -29,4 +29,5 @@ returns c not_so =
     (subst (λ q. c.in-Some.j < length q) c.as_slice-own.ensures.value c.in-Some.ensures.some.0)
     (sym (ap (λ q. get_or q c.in-Some.j 0) c.as_slice-own.ensures.value) ∙ c.in-Some.ensures.some.1)
     (λ rest is. c.begins-2.ensures not_so rest (take_all (length c.args.list.now - k) (drop k c.args.list.now)
-    (let n = length-drop k c.args.list.now in omega (arith, n)) ∙ is ∙ ap (λ q. q ++ rest) (sym c.as_slice-own.ensures.value)))
+    (let n = length-drop k c.args.list.now in omega (arith, n)) ∙ is
+    ∙ ap (λ q. q ++ rest) (sym c.as_slice-own.ensures.value)))

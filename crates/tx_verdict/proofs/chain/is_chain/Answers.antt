@@ -9,7 +9,8 @@ pub loop-i-preserved : goal.loop-i-preserved
 loop-i-preserved c =
     let r = c.args.recording.now in
     let ws = c.writers_of-writers.result.now in
-    let both = more_links r c.args.key (writers_of c.args.versions.now.recorded c.args.chain) ws c.loop-i.i c.loop-i.known c.in_ok-based.based
+    let both = more_links r c.args.key (writers_of c.args.versions.now.recorded c.args.chain) ws c.loop-i.i
+    c.loop-i.known c.in_ok-based.based
     c.both-known.result
     c.writers_of-writers.ensures c.loop-i-test.true c.requires.writers c.loop-i.invariant.links c.loop-i.invariant.based
     c.in_ok-based.ensures (c.is_next.ensures c.if-not-is_next.false) c.both-known.ensures in

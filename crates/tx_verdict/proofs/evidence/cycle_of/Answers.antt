@@ -11,7 +11,8 @@ use Rattle.tx_verdict.proofs.Stepping.{depends_all}
 use Rattle.tx_verdict.proofs.evidence.cycle_of.Goals as goal
 
 pub steps_of-requires-clause-hold : goal.steps_of-requires-clause-hold
-steps_of-requires-clause-hold c = depends_all (history_of c.args.versions.now.recorded) c.args.nodes.now c.in_ok-found.found.items
+steps_of-requires-clause-hold c =
+    depends_all (history_of c.args.versions.now.recorded) c.args.nodes.now c.in_ok-found.found.items
     c.as_slice.result.now c.as_slice.ensures.value c.in_ok-found.ensures
 
 pub returns-clause-refused : goal.returns-clause-refused
@@ -23,6 +24,8 @@ pub returns-clause-cycle : goal.returns-clause-cycle
 returns-clause-cycle c = (
   subst AreRound c.as_slice-2.ensures.value (c.is_round.ensures c.if-not-is_round.false),
   c.in_ok-steps.ensures,
-  subst (λ (q : List CycleStep). Needs q c.beside_of-beside.result) c.as_slice-3.ensures.value c.beside_of-beside.ensures,
-  subst (λ (q : List CycleStep). IsNamed q c.anomaly_of-anomaly.result) c.as_slice-4.ensures.value c.anomaly_of-anomaly.ensures,
+  subst (λ (q : List CycleStep). Needs q c.beside_of-beside.result) c.as_slice-3.ensures.value
+      c.beside_of-beside.ensures,
+  subst (λ (q : List CycleStep). IsNamed q c.anomaly_of-anomaly.result) c.as_slice-4.ensures.value
+      c.anomaly_of-anomaly.ensures,
 )

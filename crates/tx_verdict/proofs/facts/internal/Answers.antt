@@ -13,6 +13,12 @@ ops_of-ops-requires-clause-within c = is_one c.args.recording.now c.args.txn c.r
 
 pub returns : goal.returns
 returns c =
-    let P : ℕ → Type 0 = λ k. IsWrong c.args.recording.now record { rule = Internal; txn = c.args.txn; key = k; value = None; by = None } in
+    let P : ℕ → Type 0 = λ k. IsWrong c.args.recording.now record {
+      rule = Internal;
+      txn = c.args.txn;
+      key = k;
+      value = None;
+      by = None;
+    } in
     subst P (sym (ap (λ q. (get_or q c.args.place no_op).key) c.ops_of-ops.ensures.are))
     (fact_internal c.args.recording.now c.args.txn c.args.place c.requires.internal)

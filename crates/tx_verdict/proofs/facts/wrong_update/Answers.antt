@@ -16,7 +16,8 @@ returns c =
     (c.requires.views one (Contains-get_or views c.args.lost.first no_view c.if-first-views.false))
     (c.requires.views other (Contains-get_or views c.args.lost.second no_view c.if-second-views.false))
     c.if-one-other.false c.if-one-other-2.false (c.is_same.ensures c.if-not-is_same.false)
-    (c.is_update-first_puts.ensures c.if-not-first_puts.false) (c.is_update-second_puts.ensures c.if-not-second_puts.false)
+    (c.is_update-first_puts.ensures c.if-not-first_puts.false)
+    (c.is_update-second_puts.ensures c.if-not-second_puts.false)
 
 pub is_same-requires-clause-one : goal.is_same-requires-clause-one
 is_same-requires-clause-one c =

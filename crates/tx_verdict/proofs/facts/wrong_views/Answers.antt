@@ -6,7 +6,8 @@ use Rattle.tx_verdict.proofs.facts.wrong_views.Goals as goal
 
 pub wrong_view-requires-clause-view : goal.wrong_view-requires-clause-view
 wrong_view-requires-clause-view c =
-    c.requires.views (get_or c.args.views.now c.loop-i.i no_view) (Contains-get_or c.args.views.now c.loop-i.i no_view c.loop-i-test.true)
+    c.requires.views (get_or c.args.views.now c.loop-i.i no_view)
+    (Contains-get_or c.args.views.now c.loop-i.i no_view c.loop-i-test.true)
 
 pub wrong_again-found-requires-clause-before : goal.wrong_again-found-requires-clause-before
 wrong_again-found-requires-clause-before c =
@@ -15,4 +16,5 @@ wrong_again-found-requires-clause-before c =
 
 pub wrong_again-found-requires-clause-view : goal.wrong_again-found-requires-clause-view
 wrong_again-found-requires-clause-view c =
-    c.requires.views (get_or c.args.views.now c.loop-i.i no_view) (Contains-get_or c.args.views.now c.loop-i.i no_view c.loop-i-test.true)
+    c.requires.views (get_or c.args.views.now c.loop-i.i no_view)
+    (Contains-get_or c.args.views.now c.loop-i.i no_view c.loop-i-test.true)

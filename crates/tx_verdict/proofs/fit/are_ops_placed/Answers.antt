@@ -10,8 +10,10 @@ use Rattle.tx_verdict.proofs.fit.are_ops_placed.Goals as goal
 pub loop-i-preserved : goal.loop-i-preserved
 loop-i-preserved c i w lt put =
     let os = c.args.ops.now in
-    let P : ℕ → Type 0 = λ q. (u : ℕ) → Puts (get_or os q no_op).act u → IsPlaced c.args.versions.now c.args.txn (get_or os q no_op).key in
-    below_next P c.loop-i.i (λ q low u also. c.loop-i.invariant q u low also) (c.is_op_placed.ensures c.if-not-is_op_placed.false) i lt w put
+    let P : ℕ → Type 0 = λ q. (u : ℕ) → Puts (get_or os q no_op).act u
+    → IsPlaced c.args.versions.now c.args.txn (get_or os q no_op).key in
+    below_next P c.loop-i.i (λ q low u also. c.loop-i.invariant q u low also)
+    (c.is_op_placed.ensures c.if-not-is_op_placed.false) i lt w put
 
 pub returns : goal.returns
 returns c _ = placed_all c.args.versions.now c.args.txn c.args.ops.now

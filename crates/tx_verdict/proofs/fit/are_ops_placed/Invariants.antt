@@ -6,4 +6,5 @@ use Rattle.tx_verdict.specs.Versions.{IsPlaced}
 use Rattle.tx_verdict.proofs.fit.are_ops_placed.Given as goal
 
 abbrev pub invariant-loop-i : goal.invariant-loop-i
-invariant-loop-i l = (i v : ℕ) → i < l.i → Puts (get_or l.ops i no_op).act v → IsPlaced l.versions l.txn (get_or l.ops i no_op).key
+invariant-loop-i l = (i v : ℕ) → i < l.i → Puts (get_or l.ops i no_op).act v
+    → IsPlaced l.versions l.txn (get_or l.ops i no_op).key

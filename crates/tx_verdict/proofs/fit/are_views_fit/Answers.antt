@@ -17,5 +17,6 @@ fits_view-requires-clause-there c =
 
 pub loop-i-preserved : goal.loop-i-preserved
 loop-i-preserved c =
-    below_next (λ q. IsViewFit c.args.recording.now c.args.versions.now (get_or c.args.views.now q no_view)) c.loop-i.i c.loop-i.invariant
+    below_next (λ q. IsViewFit c.args.recording.now c.args.versions.now (get_or c.args.views.now q no_view)) c.loop-i.i
+    c.loop-i.invariant
     (c.fits_view.ensures c.if-not-fits_view.false)

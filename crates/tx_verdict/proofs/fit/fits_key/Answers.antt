@@ -17,4 +17,5 @@ loop-i-preserved c =
     (subst (λ ws. IsVersionFit r v k (slice_index ws i) (i + 1)) c.writers_of-writers.ensures last)
 
 pub returns : goal.returns
-returns c _ i lt = c.loop-i.invariant i (let end = c.loop-i-test.false in let n = ap length c.writers_of-writers.ensures in omega (arith, end, n, lt))
+returns c _ i lt = c.loop-i.invariant i (let end = c.loop-i-test.false in let n =
+    ap length c.writers_of-writers.ensures in omega (arith, end, n, lt))

@@ -6,7 +6,8 @@ use Rattle.tx_verdict.proofs.fit.is_left.Goals as goal
 
 pub returns-then-starts_anew : goal.returns-then-starts_anew
 returns-then-starts_anew c is =
-    left_anew c.args.texts.now c.in-Some.text.now c.args.before c.args.span c.args.effect.now c.as_slice-own.result.now c.in-Some.ensures
+    left_anew c.args.texts.now c.in-Some.text.now c.args.before c.args.span c.args.effect.now c.as_slice-own.result.now
+    c.in-Some.ensures
     (c.starts_anew.ensures.yes c.if-starts_anew.true) (c.is_end.ensures.0 is) c.as_slice-own.ensures.value
 
 pub returns : goal.returns

@@ -12,7 +12,8 @@ pub loop-chain-preserved : goal.loop-chain-preserved
 loop-chain-preserved c =
     let r = c.args.recording.now in
     let v = c.args.versions.now in
-    let lt : c.loop-chain.chain < length v.names.items = grind (arith, common_steps, c.loop-chain-test.true, c.len-chains.ensures) in
+    let lt : c.loop-chain.chain < length v.names.items =
+    grind (arith, common_steps, c.loop-chain-test.true, c.len-chains.ensures) in
     below_next (IsChain r v) c.loop-chain.chain c.loop-chain.invariant
     (chain_of r v c.loop-chain.chain c.index-key.result.now
     (get_or_read v.names.items c.loop-chain.chain c.index-key.result.now lt c.index-key.ensures 0)

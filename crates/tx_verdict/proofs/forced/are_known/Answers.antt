@@ -11,9 +11,11 @@ use Rattle.tx_verdict.proofs.forced.are_known.Goals as goal
 pub loop-txn-preserved-then-not-index : goal.loop-txn-preserved-then-not-index
 loop-txn-preserved-then-not-index c orders x e =
     let v = c.args.versions.now in
-    let lt : c.loop-txn.txn < length v.live.items = grind (arith, common_steps, c.loop-txn-test.true, c.len-txn-end.ensures) in
+    let lt : c.loop-txn.txn < length v.live.items =
+    grind (arith, common_steps, c.loop-txn-test.true, c.len-txn-end.ensures) in
     below_next (λ t. IsTrue (live_of v t) → IsTrue (x.committed t)) c.loop-txn.txn (c.loop-txn.invariant orders x e)
-    (λ is. absurd (false≢true (sym (live_is v c.loop-txn.txn c.index.result.now false lt c.index.ensures c.if-not-index.true) ∙ is)))
+    (λ is. absurd (false≢true
+    (sym (live_is v c.loop-txn.txn c.index.result.now false lt c.index.ensures c.if-not-index.true) ∙ is)))
 
 pub loop-txn-preserved : goal.loop-txn-preserved
 loop-txn-preserved c orders x e =
@@ -25,6 +27,7 @@ pub returns : goal.returns
 returns c _ orders x e t is =
     let v = c.args.versions.now in
     elim (cases_lt t (length v.live.items)) [
-      | inl lt ↦ c.loop-txn.invariant orders x e t (grind (arith, common_steps, c.loop-txn-test.false, c.len-txn-end.ensures, lt)) is
+      | inl lt ↦ c.loop-txn.invariant orders x e t
+          (grind (arith, common_steps, c.loop-txn-test.false, c.len-txn-end.ensures, lt)) is
       | inr past ↦ absurd (false≢true (sym (get_or_past v.live.items t false past) ∙ is))
     ]

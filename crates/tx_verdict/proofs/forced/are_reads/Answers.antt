@@ -22,9 +22,11 @@ loop-i-preserved c =
     (c.is_read.ensures c.if-not-is_read.false))
 
 pub returns : goal.returns
-returns c _ = by_place (IsReadForced c.args.recording.now c.args.versions.now) c.args.versions.now.recorded.reads.items no_read
+returns c _ = by_place (IsReadForced c.args.recording.now c.args.versions.now) c.args.versions.now.recorded.reads.items
+    no_read
     (λ i lt. c.loop-i.invariant i (grind (arith, common_steps, c.loop-i-test.false, c.if-len-views.false, lt)))
 
 pub is_read-requires-clause-view : goal.is_read-requires-clause-view
 is_read-requires-clause-view c =
-    c.requires.views (get_or c.args.views.now c.loop-i.i no_view) (Contains-get_or c.args.views.now c.loop-i.i no_view c.loop-i-test.true)
+    c.requires.views (get_or c.args.views.now c.loop-i.i no_view)
+    (Contains-get_or c.args.views.now c.loop-i.i no_view c.loop-i-test.true)

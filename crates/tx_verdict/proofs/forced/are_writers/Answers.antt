@@ -12,10 +12,12 @@ loop-i-preserved c orders x e =
     let i = c.loop-i.i in
     let w = slice_index ws i in
     let live = sym c.is_live.ensures ∙ c.if-not-is_live.false in
-    let put = subst (λ os. (v : ℕ) × PutsIn os c.args.key v) c.ops_of.ensures.are (c.puts.ensures c.if-not-puts.false) in
+    let put = subst (λ os. (v : ℕ) × PutsIn os c.args.key v) c.ops_of.ensures.are
+    (c.puts.ensures c.if-not-puts.false) in
     below_next (λ q. IsWriter r x (slice_index (writers_of c.args.versions.now.recorded c.args.chain) q) c.args.key) i
     (c.loop-i.invariant orders x e)
-    (subst (λ z. IsWriter r x (slice_index z i) c.args.key) c.writers_of-writers.ensures (c.requires.known orders x e w live, put))
+    (subst (λ z. IsWriter r x (slice_index z i) c.args.key) c.writers_of-writers.ensures
+    (c.requires.known orders x e w live, put))
 
 pub returns : goal.returns
 returns c _ orders x e i lt = c.loop-i.invariant orders x e i

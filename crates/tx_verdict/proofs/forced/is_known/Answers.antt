@@ -10,4 +10,5 @@ pub returns-then-is_ok : goal.returns-then-is_ok
 returns-then-is_ok c _ orders x e =
     let r = c.args.recording.now in
     let lt : c.args.txn < txns_of r = grind (arith, common_steps, c.if-txn-len.false) in
-    e.ok c.args.txn lt (outcome_is r c.args.txn c.index.result.now Committed lt c.index.ensures (c.is_ok.ensures.0 c.if-is_ok.true))
+    e.ok c.args.txn lt (outcome_is r c.args.txn c.index.result.now Committed lt c.index.ensures
+    (c.is_ok.ensures.0 c.if-is_ok.true))

@@ -10,8 +10,10 @@ returns c is =
     let views = c.args.views.now in
     let i = c.args.shown.view in
     let v = get_or views i no_view in
-    shown_by c.args.recording.now c.args.owners.now v c.list_of-list.result.now c.args.shown.place c.args.txn c.requires.owners
-    (c.requires.views v (Contains-get_or views i no_view c.if-shown-views.false)) c.list_of-list.ensures c.if-shown-list.false
+    shown_by c.args.recording.now c.args.owners.now v c.list_of-list.result.now c.args.shown.place c.args.txn
+    c.requires.owners
+    (c.requires.views v (Contains-get_or views i no_view c.if-shown-views.false)) c.list_of-list.ensures
+    c.if-shown-list.false
     (c.is_by.ensures is)
 
 pub list_of-list-requires : goal.list_of-list-requires

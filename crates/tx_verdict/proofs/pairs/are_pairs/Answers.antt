@@ -15,8 +15,11 @@ loop-i-preserved c =
     let pairs = v.recorded.after.items in
     below_next (λ q. IsPair r c.args.orders v (get_or pairs q no_pair)) c.loop-i.i c.loop-i.invariant
     (subst (λ (p : After). IsPair r c.args.orders v p)
-    (get_or_read pairs c.loop-i.i c.index.result.now (grind (arith, common_steps, c.len-i-end.ensures, c.loop-i-test.true)) c.index.ensures no_pair) (c.is_pair.ensures c.if-not-is_pair.false))
+    (get_or_read pairs c.loop-i.i c.index.result.now
+    (grind (arith, common_steps, c.len-i-end.ensures, c.loop-i-test.true)) c.index.ensures no_pair)
+    (c.is_pair.ensures c.if-not-is_pair.false))
 
 pub returns : goal.returns
-returns c _ = by_place (IsPair c.args.recording.now c.args.orders c.args.versions.now) c.args.versions.now.recorded.after.items no_pair
+returns c _ = by_place (IsPair c.args.recording.now c.args.orders c.args.versions.now)
+    c.args.versions.now.recorded.after.items no_pair
     (λ i lt. c.loop-i.invariant i (grind (arith, common_steps, c.len-i-end.ensures, c.loop-i-test.false, lt)))

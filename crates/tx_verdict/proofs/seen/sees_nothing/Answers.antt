@@ -6,5 +6,6 @@ use Rattle.tx_verdict.proofs.seen.sees_nothing.Goals as goal
 
 pub returns : goal.returns
 returns c is =
-    nothing_at c.args.recording.now c.args.view c.args.txn c.args.key c.requires.view c.if-view-txn.false c.if-view-key.false
+    nothing_at c.args.recording.now c.args.view c.args.txn c.args.key c.requires.view c.if-view-txn.false
+    c.if-view-key.false
     (eqb-true c.args.view.span.count 0 is)

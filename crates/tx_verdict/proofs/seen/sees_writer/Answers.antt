@@ -7,6 +7,7 @@ use Rattle.tx_verdict.proofs.seen.sees_writer.Goals as goal
 
 pub returns : goal.returns
 returns c is =
-    newest_at c.args.recording.now c.args.owners.now c.args.view c.list_of-list.result.now c.args.txn c.args.key c.args.writer
+    newest_at c.args.recording.now c.args.owners.now c.args.view c.list_of-list.result.now c.args.txn c.args.key
+    c.args.writer
     c.requires.owners c.requires.view c.if-view-txn.false c.if-view-key.false c.list_of-list.ensures
     (λ none. c.if-count-eq0.false none) (c.is_by.ensures is)

@@ -11,6 +11,8 @@ pub returns : goal.returns
 returns c =
     let d = c.args.dependency in
     let v = c.args.versions.now in
-    step_on c.args.recording.now c.args.orders (history_of v.recorded) (key_of v) c.requires.forced d.kind d.from d.to d.key d.version
+    step_on c.args.recording.now c.args.orders (history_of v.recorded) (key_of v) c.requires.forced d.kind d.from d.to
+    d.key d.version
     c.index.result.now c.in_ok-edge.edge c.requires.holds c.in_ok-edge.ensures
-    (get_or_read v.names.items d.key c.index.result.now (grind (arith, common_steps, c.if-dependency-len.false)) c.index.ensures 0)
+    (get_or_read v.names.items d.key c.index.result.now (grind (arith, common_steps, c.if-dependency-len.false))
+    c.index.ensures 0)

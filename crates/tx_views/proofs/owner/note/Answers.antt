@@ -13,7 +13,8 @@ returns-in-Some-index-clause-twice c =
     let table = c.loop-place.table.items in
     let v = c.in-Some.value in
     let first = c.in-Some-index.first in
-    let own = own_op r c.ops_of-ops.result.now t place v c.ops_of-ops.ensures.are c.loop-place-test.true c.in-Some.ensures.some in
+    let own = own_op r c.ops_of-ops.result.now t place v c.ops_of-ops.ensures.are c.loop-place-test.true
+    c.in-Some.ensures.some in
     let below = value_below r t place v c.requires.recording own.0 own.1 in
     let each = c.loop-place.invariant.each in
     let all = c.requires.each in
@@ -33,7 +34,8 @@ loop-place-preserved c =
     let table = c.loop-place.table.items in
     let v = c.in-Some.value in
     let old = c.loop-place.invariant in
-    let own = own_op r c.ops_of-ops.result.now t place v c.ops_of-ops.ensures.are c.loop-place-test.true c.in-Some.ensures.some in
+    let own = own_op r c.ops_of-ops.result.now t place v c.ops_of-ops.ensures.are c.loop-place-test.true
+    c.in-Some.ensures.some in
     let below = value_below r t place v c.requires.recording own.0 own.1 in
     let each = c.loop-place.invariant.each in
     let all = c.requires.each in

@@ -9,5 +9,6 @@ pub returns : goal.returns
 returns c =
     let list = c.args.list.now in
     let rest = take_rest list c.args.cut in
-    let both = slice_eq-Decides Decides-eqb (take (length list - c.args.cut) (drop c.args.cut list)) c.args.own.now c.eq.result c.eq.ensures in
+    let both = slice_eq-Decides Decides-eqb (take (length list - c.args.cut) (drop c.args.cut list)) c.args.own.now
+    c.eq.result c.eq.ensures in
     (λ is. sym rest ∙ both.0 is, λ same. both.1 (rest ∙ same))

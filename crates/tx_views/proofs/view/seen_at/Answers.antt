@@ -12,4 +12,5 @@ returns-then-place-reads c =
     let p = c.args.place in
     let k = (get_or os p no_op).key in
     if_ok (IsSeen r [] k c.args.span) (IsSeen r (take p os) k c.args.span) c.seen_behind.result
-    (λ s. seen_same r [] (take p os) k c.args.span s (λ xs. c.requires.reads p k xs c.if-place-reads.true)) c.seen_behind.ensures
+    (λ s. seen_same r [] (take p os) k c.args.span s (λ xs. c.requires.reads p k xs c.if-place-reads.true))
+    c.seen_behind.ensures

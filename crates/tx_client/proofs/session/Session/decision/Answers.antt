@@ -9,5 +9,8 @@ pub new-requires : goal.new-requires
 new-requires g c =
     let k = c.self.inside.seat in
     let fate = c.in_ok-fate.fate in
-    let is = known_decided g.J.JournalId.bounds k.events c.self.invariant.0 k.seat c.self.inside.transaction c.self.invariant.1 fate (sym c.decision.ensures ∙ c.in_ok-fate.was) in
-    subst (λ (x : History × ℕ). decided x.0 x.1 ≡ Done fate) (λ j. (sym c.tell-told.ensures.told j, sym c.start.ensures j)) is
+    let is = known_decided g.J.JournalId.bounds k.events
+    c.self.invariant.0 k.seat c.self.inside.transaction c.self.invariant.1 fate (sym c.decision.ensures
+    ∙ c.in_ok-fate.was) in
+    subst (λ (x : History × ℕ). decided x.0 x.1 ≡ Done fate)
+    (λ j. (sym c.tell-told.ensures.told j, sym c.start.ensures j)) is

@@ -8,6 +8,12 @@ use Rattle.tx_client.proofs.session.Session.lock.Goals as goal
 
 pub invariant_of-self : goal.invariant_of-self
 invariant_of-self g c =
-    let not_yet : is_declared c.self.inside.transaction ≡ false = subst (λ (z : Seated). is_declared z.state ≡ false) (sym c.self.view_is) c.requires in
-    either c.lock.result _ (λ (z : SessionState). IsSeated g.J.JournalId.bounds c.self.inside.seat z) c.self.inside.transaction _ c.lock.new.self c.lock.ensures.ok c.lock.ensures.same c.self.invariant
-    (c.self.invariant.0, locked_ok c.self.inside.seat.events c.self.inside.seat.seat c.self.inside.transaction c.self.invariant.1 c.args.key not_yet)
+    let not_yet : is_declared c.self.inside.transaction ≡ false =
+    subst (λ (z : Seated). is_declared z.state ≡ false) (sym c.self.view_is) c.requires in
+    either c.lock.result _ (λ (z : SessionState). IsSeated g.J.JournalId.bounds
+    c.self.inside.seat z) c.self.inside.transaction _ c.lock.new.self c.lock.ensures.ok c.lock.ensures.same
+    c.self.invariant (
+      c.self.invariant.0,
+      locked_ok c.self.inside.seat.events c.self.inside.seat.seat c.self.inside.transaction
+          c.self.invariant.1 c.args.key not_yet,
+    )

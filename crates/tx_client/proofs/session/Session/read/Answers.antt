@@ -5,4 +5,5 @@ use Rattle.tx_client.proofs.Calling.{held_at}
 use Rattle.tx_client.proofs.session.Session.read.Goals as goal
 
 pub look-requires-clause-held : goal.look-requires-clause-held
-look-requires-clause-held g c = subst (λ (b : Body). IsHeld g.J.JournalId.bounds b) (sym c.in-Ok.ensures.ok) (held_at g.J.JournalId.bounds _)
+look-requires-clause-held g c =
+    subst (λ (b : Body). IsHeld g.J.JournalId.bounds b) (sym c.in-Ok.ensures.ok) (held_at g.J.JournalId.bounds _)

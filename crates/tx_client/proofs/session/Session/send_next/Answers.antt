@@ -9,10 +9,14 @@ pub pursue-requires-clause-allowed : goal.pursue-requires-clause-allowed
 pursue-requires-clause-allowed g c =
     let due = c.in-Ok-Some.due in
     subst (λ (z : Seated). Allowed z.seat.events due.body) c.self.view_is
-    (next_allowed g.J.JournalId.bounds c.self.inside.seat.events c.self.invariant.0 c.self.inside.seat.seat c.self.inside.transaction c.self.invariant.1 c.args.phase due (sym c.in-Ok-Some.ensures.ok ∙ c.in-Ok-Some.field-0-is)).0
+    (next_allowed g.J.JournalId.bounds c.self.inside.seat.events c.self.invariant.0 c.self.inside.seat.seat
+    c.self.inside.transaction c.self.invariant.1 c.args.phase due (sym c.in-Ok-Some.ensures.ok
+    ∙ c.in-Ok-Some.field-0-is)).0
 
 pub pursue-requires-clause-right : goal.pursue-requires-clause-right
 pursue-requires-clause-right g c =
     let due = c.in-Ok-Some.due in
     subst (λ (z : Seated). IsFor z.state c.args.phase due) c.self.view_is
-    (next_allowed g.J.JournalId.bounds c.self.inside.seat.events c.self.invariant.0 c.self.inside.seat.seat c.self.inside.transaction c.self.invariant.1 c.args.phase due (sym c.in-Ok-Some.ensures.ok ∙ c.in-Ok-Some.field-0-is)).1
+    (next_allowed g.J.JournalId.bounds c.self.inside.seat.events c.self.invariant.0 c.self.inside.seat.seat
+    c.self.inside.transaction c.self.invariant.1 c.args.phase due (sym c.in-Ok-Some.ensures.ok
+    ∙ c.in-Ok-Some.field-0-is)).1

@@ -5,7 +5,7 @@ use Rattle.tx_types.specs.declared.fault.Cause.TheVariants as cause
 use Rattle.tx_engine.specs.declared.slots.SessionSlot.TheVariants.{Live}
 use Rattle.tx_steps.specs.Steps.{acted}
 use Rattle.tx_engine.specs.Semantics.{edits, live_at}
-use Rattle.tx_engine.specs.Slots.{Held, Kept, texts, name_at, engine_state, AllSeated, Goes, TurnedBy}
+use Rattle.tx_engine.specs.Slots.{Held, SlotContent, texts, name_at, engine_state, AllSeated, Goes, TurnedBy}
 use Rattle.tx_engine.proofs.Keeping.{at_place_of}
 use Rattle.tx_engine.proofs.Engines.{named, no_name, no_place, in_name, act_stops, step_in, turn_stops}
 use Rattle.tx_engine.proofs.Doing.{SessionTurn}
@@ -45,8 +45,8 @@ edit_in-requires g c =
       slots = s.slots.items;
     } in
     let ready : AllSeated bounds 1 old = subst (AllSeated bounds 1) (sym c.self.view_is) c.requires.ready in
-    let x : Kept = c.index_mut.result.now in
-    let lt : k < length old.slots = subst (λ (ps : List Kept). k
+    let x : SlotContent = c.index_mut.result.now in
+    let lt : k < length old.slots = subst (λ (ps : List SlotContent). k
     < length ps) c.deref.ensures.value c.in-Some.ensures.some.1 in
     let there : slice_get old.slots k ≡ Some x = slice_get-get_or old.slots k x lt ∙ ap Some
     (sym c.index_mut.ensures.value) in
@@ -67,9 +67,9 @@ returns g c =
     } in
     let at : name_at old.names name ≡ Some k = named s.names name ∙ c.in-Some.ensures.some.0 in
     let ready : AllSeated bounds 1 old = subst (AllSeated bounds 1) (sym c.self.view_is) c.requires.ready in
-    let x : Kept = c.index_mut.result.now in
-    let y : Kept = c.edit_in.new.slot in
-    let lt : k < length old.slots = subst (λ (ps : List Kept). k
+    let x : SlotContent = c.index_mut.result.now in
+    let y : SlotContent = c.edit_in.new.slot in
+    let lt : k < length old.slots = subst (λ (ps : List SlotContent). k
     < length ps) c.deref.ensures.value c.in-Some.ensures.some.1 in
     let there : slice_get old.slots k ≡ Some x = slice_get-get_or old.slots k x lt ∙ ap Some
     (sym c.index_mut.ensures.value) in

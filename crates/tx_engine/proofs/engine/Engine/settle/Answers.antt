@@ -2,7 +2,7 @@ use Rattle.std.proofs.Common.{◌≡◌, ◌+◌, length, Some, Contains, sym, a
 use Rattle.tx_core.specs.Histories.{Begins}
 use Rattle.tx_journal.specs.Known.{Known}
 use Rattle.tx_network.specs.Networks.{NetworkParts, IsDone, AreNumbered}
-use Rattle.tx_engine.specs.Slots.{Held, Kept, seat_in, Done}
+use Rattle.tx_engine.specs.Slots.{Held, SlotContent, seat_in, Done}
 use Rattle.tx_network.proofs.Learning.{done_learnt, done_popped}
 use Rattle.tx_engine.proofs.engine.Engine.settle.Goals as goal
 
@@ -16,7 +16,7 @@ slots-preserved-in-Free g c =
     let done : Done n (Some k) = done_learnt n k learnt.new.self knows learnt.ensures.own in
     record {
       newest = c.copy.ensures.same ∙ c.slots.invariant.newest;
-      slots = λ rest. c.slots.invariant.slots (done_popped (λ (p : Kept). Done n (seat_in p)) c.slots.slots.items
+      slots = λ rest. c.slots.invariant.slots (done_popped (λ (p : SlotContent). Done n (seat_in p)) c.slots.slots.items
           c.pop.new.self.items c.in-Some.slot c.in-Some.ensures.items
           (subst (λ p. Done n (seat_in p)) (sym c.in-Free.is) done) rest);
     }
@@ -32,7 +32,7 @@ slots-preserved-in-Live g c =
     let done : Done n (Some s.seat) = done_learnt n s.seat learnt.new.self.seat knows learnt.ensures.after_answer.own in
     record {
       newest = c.copy-in-Live.ensures.same ∙ c.slots.invariant.newest;
-      slots = λ rest. c.slots.invariant.slots (done_popped (λ (p : Kept). Done n (seat_in p)) c.slots.slots.items
+      slots = λ rest. c.slots.invariant.slots (done_popped (λ (p : SlotContent). Done n (seat_in p)) c.slots.slots.items
           c.pop.new.self.items c.in-Some.slot c.in-Some.ensures.items
           (subst (λ p. Done n (seat_in p)) (sym c.in-Live.is) done) rest);
     }
@@ -42,7 +42,7 @@ slots-preserved g c =
     let n = c.args.self.network.newest in
     record {
       newest = c.slots.invariant.newest;
-      slots = λ rest. c.slots.invariant.slots (done_popped (λ (p : Kept). Done n (seat_in p)) c.slots.slots.items
+      slots = λ rest. c.slots.invariant.slots (done_popped (λ (p : SlotContent). Done n (seat_in p)) c.slots.slots.items
           c.pop.new.self.items c.in-Some.slot c.in-Some.ensures.items
           (subst (λ p. Done n (seat_in p)) (sym c.in-Lent.is) tt) rest);
     }

@@ -5,7 +5,7 @@ use Rattle.tx_types.specs.declared.key.Key.{Key}
 use Rattle.tx_flat.specs.declared.FlatCells.{FlatCells}
 use Rattle.tx_cells.specs.Contents.{cells_in}
 use Rattle.tx_flat.specs.Flats.{flat_content, fronts_of, rows_from}
-use Rattle.tx_flat.specs.Positions.{Locks, Writes, coming, first_of, next_key, comes_before, IsPosition}
+use Rattle.tx_flat.specs.Positions.{Locks, WriteEntries, coming, first_of, next_key, comes_before, IsPosition}
 use Rattle.tx_flat.proofs.HeldKeys.{rows_step}
 use Rattle.tx_flat.proofs.Passing.{lock_first, write_first, front_coming, ended}
 use Rattle.tx_flat.proofs.walks.FlatReadsReadWalk.next.Goals as goal
@@ -20,7 +20,7 @@ invariant_of-self c =
     let no_write : coming c.take-write.new.self ws ≡ [] = ap (λ o. coming o ws) c.take-write.ensures.after in
     record {
       slot = subst (λ (es : Locks). IsPosition flat es (coming c.take-write.new.self ws)) (sym no_lock)
-          (subst (λ (es : Writes). IsPosition flat [] es) (sym no_write) (ended flat _ _ c.args.self.now.slot));
+          (subst (λ (es : WriteEntries). IsPosition flat [] es) (sym no_write) (ended flat _ _ c.args.self.now.slot));
     }
 
 pub returns-then-comes_first-clause-next : goal.returns-then-comes_first-clause-next

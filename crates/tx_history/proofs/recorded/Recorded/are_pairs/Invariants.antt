@@ -1,7 +1,7 @@
 -- Those so far are of its transactions.
 use Rattle.std.proofs.Common.{ℕ, ◌<◌}
 use Rattle.tx_history.specs.Records.{IsAmong}
-use Rattle.tx_history.specs.Adding.{pair_at}
+use Rattle.tx_history.specs.Additions.{pair_at}
 use Rattle.tx_history.proofs.recorded.Recorded.are_pairs.Given as goal
 
 abbrev pub invariant-loop-i : goal.invariant-loop-i

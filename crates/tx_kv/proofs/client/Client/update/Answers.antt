@@ -1,6 +1,6 @@
 use Rattle.std.proofs.Common.{◌≡◌, subst, rules}
 use Rattle.tx_kv.specs.Clients.{ClientState, Updates, seats_of}
-use Rattle.tx_kv.proofs.Telling.{updates_so}
+use Rattle.tx_kv.proofs.Telling.{seen_goes, updates_so}
 use Rattle.tx_kv.proofs.client.Client.update.Goals as goal
 
 pub returns : goal.returns
@@ -18,6 +18,8 @@ returns g c =
     same
     (updates_so g.W.Work.does g.J.JournalId.bounds
     (record { seats = c.in-Some.seats; terms = inside.terms; again = inside.again })
+    c.last.new.self
+    (seen_goes g.J.JournalId.bounds c.in-Some.seats.resolves c.last.new.self c.last.ensures.same.0 c.last.ensures.seen)
     c.args.work.now c.update-came.new.work c.told_of-told.result.0 c.told_of-told.result.1
     c.update-came.result c.update-came.ensures.ended c.update-came.ensures.unended c.told_of-told.ensures.ended
     c.told_of-told.ensures.unended))

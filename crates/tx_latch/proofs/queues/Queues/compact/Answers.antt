@@ -2,12 +2,12 @@ use Rattle.std.proofs.Common.{◌≡◌, sym, ap, ◌∙◌, rules, None, slice_
 use Rattle.std.specs.Option.{is_some}
 use Rattle.std.specs.List.{filter}
 use Rattle.std.proofs.lemmas.Fn.{filter_same}
-use Rattle.tx_latch.specs.Queues.{Kept, asked_of, links, position_of, last_of, replaced}
+use Rattle.tx_latch.specs.Queues.{BetweenCalls, asked_of, links, position_of, last_of, replaced}
 use Rattle.tx_latch.proofs.Compact.{compacts}
 use Rattle.tx_latch.proofs.queues.Queues.compact.Goals as goal
 
 facts : (c : goal.After-number_all)
-    → Kept c.number_all.new.self × (asked_of c.number_all.new.self ≡ asked_of c.args.self.now)
+    → BetweenCalls c.number_all.new.self × (asked_of c.number_all.new.self ≡ asked_of c.args.self.now)
 facts c =
     let kept : c.retain.new.self.items ≡ filter is_some c.args.self.now.asked.items =
     filter_same _ is_some _ (λ x b f' k. search rules) _ _ c.retain.ensures.filtered in

@@ -4,7 +4,7 @@ use Rattle.std.specs.BTreeMap as tree
 use Rattle.tx_types.specs.declared.mutation.Change.{Change}
 use Rattle.tx_types.specs.declared.mutation.Fate.TheVariants.{Aborted}
 use Rattle.tx_machine.specs.Machine.{Open, Done, with_row, changes_in}
-use Rattle.tx_machine.specs.Representation.{version_of, row_of, Tells, IsKept}
+use Rattle.tx_machine.specs.Representation.{version_of, row_of, TellsTable, IsKept}
 use Rattle.tx_machine.proofs.CommitSteps.{no_fate}
 use Rattle.tx_machine.proofs.Steps.{aborts}
 use Rattle.tx_machine.proofs.machine.Machine.abort.Goals as goal
@@ -24,7 +24,7 @@ returns-clause-ok c table tells =
       made.0,
       subst
           (λ (cs : Option (List Change)).
-          Tells c.args.self.now.last (tree.get nat_cmp c.args.self.now.stages) (tree.get nat_cmp c.insert.new.self)
+          TellsTable c.args.self.now.last (tree.get nat_cmp c.args.self.now.stages) (tree.get nat_cmp c.insert.new.self)
           (version_of c.args.self.now.index) (IsKept c.args.self.now.index c.args.self.now.reads)
           (with_row table c.args.t cs (Done Aborted)))
           (sym (ap changes_in row)) made.1,

@@ -7,4 +7,5 @@ pub apply-requires : goal.apply-requires
 apply-requires g c =
     let b = c.args.body.now in
     let cells = cells_of (g.F.Holds.content c.args.families.now c.in_ok-key.key) in
-    subst (Applies cells) (sym c.change_of-change.ensures) (c.plan_batch_rollback.ensures.applies cells b.start c.in_ok-view.ensures.shows)
+    subst (Applies cells) (sym c.change_of-change.ensures)
+    (c.plan_batch_rollback.ensures.applies cells b.start c.in_ok-view.ensures.shows)

@@ -11,9 +11,11 @@ pub put_lock-requires : goal.put_lock-requires
 put_lock-requires g c =
     let b = c.args.body.now in
     let content = g.F.Holds.content c.args.families.now in
-    let shows = subst (λ (k : Key). Shows (cells_of (content k)) b.start b.start c.in_ok-view.view) c.in_ok-key.ensures.ok c.in_ok-view.ensures.shows in
+    let shows = subst (λ (k : Key). Shows (cells_of (content k)) b.start b.start c.in_ok-view.view)
+    c.in_ok-key.ensures.ok c.in_ok-view.ensures.shows in
     record {
       of = c.in_ok-key.ensures.ok;
-      can = subst (λ (change : KeyChange). IfSome (new_lock change) (λ new. CanPut (cells_of (content b.key)) b new)) (sym c.change_of.ensures)
+      can = subst (λ (change : KeyChange). IfSome (new_lock change) (λ new. CanPut (cells_of (content b.key)) b new))
+          (sym c.change_of.ensures)
           (c.plan_prewrite-planned.ensures.applies (cells_of (content b.key)) b.start shows);
     }

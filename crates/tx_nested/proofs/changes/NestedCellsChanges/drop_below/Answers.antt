@@ -12,7 +12,8 @@ each_key : (c : goal.After-retain) → (k : Key)
 each_key c = collects_all _ (λ f. f.0.now ≡ c.args.safe) c.args.safe
     (λ f j v b w g i t.
     let m = t.called.met in
-    let moved : CollectsOn f.0.now (held t.value.now) (held t.left.now) = record { content = m.1.0; cells = m.1.1.0 } in (
+    let moved : CollectsOn f.0.now (held t.value.now) (held t.left.now) =
+    record { content = m.1.0; cells = m.1.1.0 } in (
       subst (λ n. CollectsOn n (held v) (held w)) i
           (subst (λ (x : KeyFamilies). CollectsOn f.0.now (held x) (held w)) t.shows.1
           (subst (λ (y : KeyFamilies). CollectsOn f.0.now (held t.value.now) (held y)) t.leaves moved)),
@@ -32,7 +33,8 @@ returns-clause-numbers c = λ k.
     numbers_all _ (λ f. f.0.now ≡ c.args.safe) c.args.safe
     (λ f j v b w g i t.
     let m = t.called.met in
-    let moved : CollectsOn f.0.now (held t.value.now) (held t.left.now) = record { content = m.1.0; cells = m.1.1.0 } in (
+    let moved : CollectsOn f.0.now (held t.value.now) (held t.left.now) =
+    record { content = m.1.0; cells = m.1.1.0 } in (
       subst (λ n. CollectsOn n (held v) (held w)) i
           (subst (λ (x : KeyFamilies). CollectsOn f.0.now (held x) (held w)) t.shows.1
           (subst (λ (y : KeyFamilies). CollectsOn f.0.now (held t.value.now) (held y)) t.leaves moved)),

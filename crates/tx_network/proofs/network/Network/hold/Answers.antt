@@ -1,6 +1,6 @@
 use Rattle.std.proofs.Common.{option_map, string_bytes, refl, sym, subst}
 use Rattle.tx_steps.specs.Steps.{delivery_named}
-use Rattle.tx_network.specs.Networks.{NetworkParts, AllFit, requests, Keeps}
+use Rattle.tx_network.specs.Networks.{NetworkParts, AllFit, requests, HoldsRequest}
 use Rattle.tx_network.proofs.Holding.{requests_set, fit_set, many_set}
 use Rattle.tx_network.proofs.network.Network.hold.Goals as goal
 
@@ -34,7 +34,7 @@ returns-in-Ok g c =
           option_map (delivery_named string_bytes) s.delivery;
       trace = s.trace;
     } in
-    subst (λ (d : NetworkParts). Keeps name d to c.args.request) c.self.view_is (record {
+    subst (λ (d : NetworkParts). HoldsRequest name d to c.args.request) c.self.view_is (record {
       regions = refl;
       newest = refl;
       held = requests_set old new name c.args.request c.in-Ok.ensures.sets;

@@ -1,4 +1,4 @@
-use Rattle.tx_region.proofs.Routes.{range_held}
+use Rattle.tx_region.proofs.BoundsBelow.{range_held}
 use Rattle.tx_network.proofs.network.Network.index_of.Goals as goal
 
 pub returns-in-Range-clause-holds : goal.returns-in-Range-clause-holds

@@ -9,7 +9,8 @@ use Rattle.tx_order.proofs.Leaving.{Leaves, left, left-smaller, top_push}
 use Rattle.tx_order.proofs.search.Search.leave.Goals as goal
 
 -- what is asked, where the path is some nodes and a last one
-leaving : (edges : List Edge) (marks : List Mark) (walk path : List Frame) (x : Frame) (done : ℕ) → walk ≡ path ++ x ∷ []
+leaving : (edges : List Edge) (marks : List Mark) (walk path : List Frame) (x : Frame) (done : ℕ)
+    → walk ≡ path ++ x ∷ []
     → IsSearch edges marks walk done
     → ((e : ℕ) → (top_of walk).next ≤ e → e < length edges → (edge_at edges e).from ≢ (top_of walk).node)
     → Leaves edges marks path x done
@@ -23,7 +24,8 @@ pub returns-in-Some-clause-search : goal.returns-in-Some-clause-search
 returns-in-Some-clause-search c =
     left _ _ _ _ _ (leaving _ _ _ _ _ _ c.in-Some.ensures.items c.requires.search c.requires.ended)
 
-smaller_at : (edges : List Edge) (marks : List Mark) (walk path : List Frame) (x : Frame) (done : ℕ) → walk ≡ path ++ x ∷ []
+smaller_at : (edges : List Edge) (marks : List Mark) (walk path : List Frame) (x : Frame) (done : ℕ)
+    → walk ≡ path ++ x ∷ []
     → Leaves edges marks path x done
     → steps_left edges (slice_set marks x.node (Done done)) path < steps_left edges marks walk
 smaller_at edges marks walk path x done is all =

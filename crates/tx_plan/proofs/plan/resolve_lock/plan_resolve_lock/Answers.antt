@@ -1,6 +1,6 @@
 use Rattle.std.proofs.Common.{inl, inr, ap, subst}
 use Rattle.tx_plan.specs.declared.answer.Answer.TheVariants.{Resolved}
-use Rattle.tx_plan.specs.Committing.{commit_in}
+use Rattle.tx_plan.specs.LockCommit.{commit_in}
 use Rattle.tx_plan.specs.Views.{Shows}
 use Rattle.tx_plan.proofs.Orders.{not_below}
 use Rattle.tx_plan.proofs.LockCommits.{resolves, refused_resolve, not_refused, commit_applies}

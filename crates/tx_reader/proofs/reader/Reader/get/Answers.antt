@@ -1,54 +1,5 @@
-use Rattle.std.proofs.Common.{ℕ, IfOk, subst, ◌∙◌}
-use Rattle.tx_reader.specs.Readers.{ReadsAt}
-use Rattle.tx_reader.proofs.Seeing.{sees_more, keeps_seen, found_so, if_found_so}
+use Rattle.tx_reader.proofs.Seeing.{sees_itself}
 use Rattle.tx_reader.proofs.reader.Reader.get.Goals as goal
 
-pub invariant_of-self : goal.invariant_of-self
-invariant_of-self g c =
-    keeps_seen g.J.JournalId.bounds c.self.inside.seat c.last-now.new.self c.self.inside.at c.self.inside.passed
-    c.self.invariant c.last-now.ensures.same.0 c.last-now.ensures.same.1 c.last-now.ensures.seen
-
-pub returns-in_err-answer-clause-seat : goal.returns-in_err-answer-clause-seat
-returns-in_err-answer-clause-seat g c =
-    sees_more c.args.self.now.seat c.loop.self.seat c.look.new.self.seat c.loop.invariant.1 c.look.ensures.seat
-
-pub returns-in_err-pass-in-KeyIsLocked-clause-seat : goal.returns-in_err-pass-in-KeyIsLocked-clause-seat
-returns-in_err-pass-in-KeyIsLocked-clause-seat g c =
-    sees_more c.args.self.now.seat c.look.new.self.seat c.pass.new.self.seat
-    (sees_more c.args.self.now.seat c.loop.self.seat c.look.new.self.seat c.loop.invariant.1 c.look.ensures.seat)
-    c.pass.ensures.seat
-
-pub returns-then-not-branch-clause-seat : goal.returns-then-not-branch-clause-seat
-returns-then-not-branch-clause-seat g c =
-    sees_more c.args.self.now.seat c.look.new.self.seat c.pass.new.self.seat
-    (sees_more c.args.self.now.seat c.loop.self.seat c.look.new.self.seat c.loop.invariant.1 c.look.ensures.seat)
-    c.pass.ensures.seat
-
-pub returns-in_default : goal.returns-in_default
-returns-in_default g c = record {
-  at = c.look.ensures.at ∙ c.loop.invariant.0;
-  seat = sees_more c.args.self.now.seat c.loop.self.seat c.look.new.self.seat c.loop.invariant.1 c.look.ensures.seat;
-  finds = subst (λ (n : ℕ). ReadsAt c.look.new.self.seat.events n c.args.key.now c.in_ok-answer.answer)
-      c.loop.invariant.0
-      (found_so g.J.JournalId.bounds c.look.new.self.seat.events c.look.ensures.run c.in_ok-answer.ensures.told.0
-      c.loop.self.at c.args.key.now c.in_ok-answer.ensures.told.1 c.in_ok-answer.ensures.told.2
-      c.in_ok-answer.answer c.in_ok-answer.ensures.told.3);
-}
-
-pub loop-preserved : goal.loop-preserved
-loop-preserved g c = (
-  c.pass.ensures.at ∙ (c.look.ensures.at ∙ c.loop.invariant.0),
-  sees_more c.args.self.now.seat c.look.new.self.seat c.pass.new.self.seat
-      (sees_more c.args.self.now.seat c.loop.self.seat c.look.new.self.seat c.loop.invariant.1 c.look.ensures.seat)
-      c.pass.ensures.seat,
-)
-
-pub returns-clause-seat : goal.returns-clause-seat
-returns-clause-seat g c =
-    sees_more c.args.self.now.seat c.loop.self.seat c.look-2.new.self.seat c.loop.invariant.1 c.look-2.ensures.seat
-
-pub returns-clause-finds : goal.returns-clause-finds
-returns-clause-finds g c =
-    subst (λ (n : ℕ). IfOk c.look-2.result (ReadsAt c.look-2.new.self.seat.events n c.args.key.now)) c.loop.invariant.0
-    (if_found_so g.J.JournalId.bounds c.look-2.new.self.seat.events c.loop.self.at c.args.key.now c.look-2.ensures.run
-    c.look-2.result c.look-2.ensures.told)
+pub returns-in_default-clause-seat : goal.returns-in_default-clause-seat
+returns-in_default-clause-seat g c = sees_itself c.args.self.now.seat

@@ -1,17 +1,20 @@
 use Rattle.std.proofs.Common.{sym, subst}
-use Rattle.tx_core.specs.Allowed.{AllowsRead}
+use Rattle.tx_core.specs.Allowed.{Allowed}
 use Rattle.tx_core.specs.Worlds.{IsWorldRun}
 use Rattle.tx_reader.specs.Readers.{Reading, OnlySees}
-use Rattle.tx_reader.proofs.Seeing.{sees_itself, learns_sees, keeps_learnt}
+use Rattle.tx_reader.proofs.Seeing.{held_of, sees_itself, learns_sees, keeps_learnt}
 use Rattle.tx_reader.proofs.reader.Reader.look.Goals as goal
 
 pub returns-in_default-clause-seat : goal.returns-in_default-clause-seat
 returns-in_default-clause-seat g c = sees_itself c.args.self.now.seat
 
+pub ask-requires-clause-held : goal.ask-requires-clause-held
+ask-requires-clause-held g c =
+    held_of g.J.JournalId.bounds c.args.read.now c.requires.held c.args.self.now.at c.in-Ok.body c.in-Ok.ensures.0
+
 pub ask-requires-clause-allowed : goal.ask-requires-clause-allowed
 ask-requires-clause-allowed g c =
-    subst (λ (r : Reading). AllowsRead r.seat.events c.in-Ok.read.at c.in-Ok.read.bypass) (sym c.self.view_is)
-    c.in-Ok.ensures.2
+    subst (λ (r : Reading). Allowed r.seat.events c.in-Ok.body) (sym c.self.view_is) c.in-Ok.ensures.1
 
 pub invariant_of-self : goal.invariant_of-self
 invariant_of-self g c =

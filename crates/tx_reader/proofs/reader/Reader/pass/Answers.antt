@@ -1,7 +1,7 @@
 use Rattle.std.proofs.Common.{sym, subst}
 use Rattle.tx_core.specs.Histories.{History, Begins}
 use Rattle.tx_core.proofs.seats.Beginnings.{begins_all}
-use Rattle.tx_resolve.specs.Reading.{read_walk}
+use Rattle.tx_resolve.specs.BlockedReads.{read_walk}
 use Rattle.tx_reader.specs.Readers.{Reading, OnlySees}
 use Rattle.tx_reader.proofs.Seeing.{sent_sees, keeps_sent}
 use Rattle.tx_reader.proofs.reader.Reader.pass.Goals as goal

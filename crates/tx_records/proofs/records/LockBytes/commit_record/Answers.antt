@@ -11,7 +11,14 @@ invariant_of-result c =
         stored.Commit (commit_of lock.0 c.args.overlapped_rollback),
         (
           record { start = lock.1.0.start; mutation = lock.1.0.mutation },
-          rw (c.in_ok-bytes.ensures.ok, append-nil c.copy_from_slice.new.self, c.copy_from_slice.ensures.after, c.as_slice-lock.ensures.value) (commit_spelt c.self.inside.bytes.items lock.0 c.self.inside.value c.args.overlapped_rollback c.from.result lock.1 (c.self.inside.position lock.0 lock.1) (search rules)),
+          rw (
+            c.in_ok-bytes.ensures.ok,
+            append-nil c.copy_from_slice.new.self,
+            c.copy_from_slice.ensures.after,
+            c.as_slice-lock.ensures.value,
+          ) (commit_spelt c.self.inside.bytes.items lock.0
+              c.self.inside.value c.args.overlapped_rollback c.from.result lock.1 (c.self.inside.position lock.0 lock.1)
+              (search rules)),
         ),
       ),
       tt,

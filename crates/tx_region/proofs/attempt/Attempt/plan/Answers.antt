@@ -4,7 +4,7 @@ use Rattle.tx_plan.specs.declared.body.Body.{Body}
 use Rattle.tx_plan.specs.Cells.{Region}
 use Rattle.tx_region.specs.Attempts.{Tried}
 use Rattle.tx_region.specs.Copies.{LooksLike, IsPlan}
-use Rattle.tx_region.specs.Planning.{IsCopyFor, IsPlanFor}
+use Rattle.tx_region.specs.KeyPlans.{IsCopyFor, IsPlanFor}
 use Rattle.tx_region.proofs.Attempts.{low_of, looks_of, plan_of, plan_in}
 use Rattle.tx_region.proofs.attempt.Attempt.plan.Goals as goal
 
@@ -20,8 +20,8 @@ plan_on-planned-requires g c =
       seen = (looks.0, subst (λ (b : Body). LooksLike looks.0 b inside.view inside.numbers) (sym c.body.ensures.body) looks.1);
     }
 
-pub returns : goal.returns
-returns g c =
+pub returns-clause-plan : goal.returns-clause-plan
+returns-clause-plan g c =
     let inside = c.self.inside in
     let q = c.args.request.now in
     let old = c.args.self.now in
@@ -30,4 +30,4 @@ returns g c =
     λ r looks. subst (λ (b : Body). IsPlan inside.loaded.mark r inside.loaded.last b c.plan_on-planned.result) c.body.ensures.body
     (c.plan_on-planned.ensures r (subst (λ (b : Body). LooksLike r b inside.view inside.numbers) (sym c.body.ensures.body) looks)) in
     let is = plan_of (λ s. s.told) (λ s. s.bytes) inside.region inside.view inside.numbers inside.taken inside.loaded inside.seen q c.plan_on-planned.result copy plans in
-    record { plan = subst (λ (t : Tried). IsSomeAnd (plan_in (λ s. s.told) (λ s. s.bytes) inside.region inside.view inside.numbers inside.taken inside.loaded inside.seen (Some c.plan_on-planned.result)) (λ plan. IsPlanFor q plan × IsSomeAnd t.copy (λ x. (plan.region ≡ x.region) × (plan.events ≡ x.events)))) c.self.view_is is }
+    subst (λ (t : Tried). IsSomeAnd (plan_in (λ s. s.told) (λ s. s.bytes) inside.region inside.view inside.numbers inside.taken inside.loaded inside.seen (Some c.plan_on-planned.result)) (λ plan. IsPlanFor q plan × IsSomeAnd t.copy (λ x. (plan.region ≡ x.region) × (plan.events ≡ x.events)))) c.self.view_is is

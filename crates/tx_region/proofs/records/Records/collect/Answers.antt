@@ -17,16 +17,37 @@ returns-clause-ok g c =
     let b = c.args.body.now in
     let before = region_of content s in
     let dropped = c.drop_below.new.self in
-    let after = region_of content record { alloc = s.alloc; families = dropped.families; safe = s.safe; collected = b.safe; taken = dropped.taken } in
+    let after = region_of content
+    record {
+      alloc = s.alloc;
+      families = dropped.families;
+      safe = s.safe;
+      collected = b.safe;
+      taken = dropped.taken;
+    } in
     let counts = c.in_ok-records.ensures.counts in
-    let a_is : c.unread-2.result.answer ≡ Collected (length counts.0) (long_values (before 0).cells counts.0) = c.unread-2.ensures.0 ∙ (λ i. Collected (counts.2 i) (counts.3 i)) in
+    let a_is : c.unread-2.result.answer ≡ Collected (length counts.0) (long_values (before 0).cells counts.0) =
+    c.unread-2.ensures.0 ∙ (λ i. Collected (counts.2 i) (counts.3 i)) in
     let at_safe : b.safe ≢ s.safe → ⊥ = search rules in
     let unlocked : SomeLockBelow (before 0).cells b.safe → ⊥ = search rules in
     λ mark loaded. record {
       answers = λ n. inr (at_safe, inr (unlocked, (counts.0, counts.1, a_is)));
       leaves = λ n.
-          ap (λ r. region_of content record { alloc = dropped.alloc; families = dropped.families; safe = dropped.safe; collected = b.safe; taken = dropped.taken } (read_upto r n)) c.unread-2.ensures.1
-          ∙ ((λ i. record { cells = λ k. c.drop_below.ensures.cells k i; max_read = n; safe = c.drop_below.ensures.same.1 i; collected = b.safe }) ∙ ap (λ a. leaves (before n) (asked.Collect b) a) (sym a_is));
+          ap (λ r. region_of content record {
+            alloc = dropped.alloc;
+            families = dropped.families;
+            safe = dropped.safe;
+            collected = b.safe;
+            taken = dropped.taken;
+          }
+          (read_upto r n)) c.unread-2.ensures.1
+          ∙ ((λ i. record {
+            cells = λ k. c.drop_below.ensures.cells k i;
+            max_read = n;
+            safe = c.drop_below.ensures.same.1 i;
+            collected = b.safe;
+          })
+          ∙ ap (λ a. leaves (before n) (asked.Collect b) a) (sym a_is));
     }
 
 pub returns-clause-counts : goal.returns-clause-counts

@@ -13,4 +13,5 @@ found write at None none = (λ is. cc (is), λ has. absurd (none has.0 has.1))
 pub returns-clause-ok : goal.returns-clause-ok
 returns-clause-ok g c =
     let write : Writes = ((region_of g.F.Holds.content c.args.self.now 0).cells c.args.key.now).write in
-    subst (λ b. IsTrue b ↔ HasValue write c.args.at) (sym c.is_some.ensures) (found write c.args.at c.in_ok-view.view.value c.in_ok-view.ensures.shows.value)
+    subst (λ b. IsTrue b ↔ HasValue write c.args.at) (sym c.is_some.ensures)
+    (found write c.args.at c.in_ok-view.view.value c.in_ok-view.ensures.shows.value)

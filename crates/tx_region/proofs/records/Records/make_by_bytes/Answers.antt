@@ -13,7 +13,8 @@ make-requires g c =
     record {
       of_key = c.requires.of_key;
       of = of;
-      may = subst (λ (k : Key). MayMake c.args.body.now (before.cells k) c.args.planned.now.change) (sym of) c.requires.may;
+      may = subst (λ (k : Key). MayMake c.args.body.now (before.cells k) c.args.planned.now.change)
+          (sym of) c.requires.may;
     }
 
 pub returns-clause-ok : goal.returns-clause-ok
@@ -21,4 +22,6 @@ returns-clause-ok g c =
     let content = g.F.Holds.content in
     let s = c.args.self.now in
     let of : c.with_bytes-key.result ≡ key_in c.args.body.now = c.with_bytes-key.ensures ∙ c.key_of.ensures in
-    subst (λ (k : Key). IfOk c.make.result (λ r. (n : ℕ) → CarriesOut (region_of content s n) k (made c.args.body.now ((region_of content s n).cells k) c.args.planned.now.change) c.args.planned.now r.answer r.read (region_of content c.make.new.self n))) of c.make.ensures.ok
+    subst (λ (k : Key). IfOk c.make.result (λ r. (n : ℕ) → CarriesOut (region_of content s n) k
+    (made c.args.body.now ((region_of content s n).cells k) c.args.planned.now.change) c.args.planned.now r.answer
+    r.read (region_of content c.make.new.self n))) of c.make.ensures.ok

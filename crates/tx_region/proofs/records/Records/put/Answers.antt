@@ -17,7 +17,9 @@ returns-in-Lock-clause-ok g c =
     let before = region_of content s 0 in
     on_ok_both c.put_lock.result _ _ _ (λ only cells n.
     region_put (content s.families) (content c.put_lock.new.self) n s.safe s.collected b.key _ _ only cells
-    ∙ ap (λ (change : KeyChange). with_cells (region_of content s n) b.key (after_put (before.cells b.key) b (new_lock change))) (sym c.in-Lock.is)) c.put_lock.ensures.content c.put_lock.ensures.cells
+    ∙ ap (λ (change : KeyChange). with_cells (region_of content s n) b.key
+    (after_put (before.cells b.key) b (new_lock change))) (sym c.in-Lock.is)) c.put_lock.ensures.content
+    c.put_lock.ensures.cells
 
 pub returns-in-Lock-clause-notes : goal.returns-in-Lock-clause-notes
 returns-in-Lock-clause-notes g c =
@@ -26,6 +28,9 @@ returns-in-Lock-clause-notes g c =
     let s = c.args.self.now in
     let b = c.args.body.now in
     let before = region_of content s 0 in
-    let can : CanPut (before.cells b.key) b c.in-Lock.new = subst (λ ch. IfSome (new_lock ch) (λ new. CanPut (before.cells b.key) b new)) c.in-Lock.is c.requires.can in
+    let can : CanPut (before.cells b.key) b c.in-Lock.new =
+    subst (λ ch. IfSome (new_lock ch) (λ new. CanPut (before.cells b.key) b new)) c.in-Lock.is c.requires.can in
     on_ok_three c.put_lock.result _ _ _ _ (λ only cells note more.
-    notes_put (content s.families) (content c.put_lock.new.self) (numbers s.families) (numbers c.put_lock.new.self) b.key _ s.taken c.args.number only b c.in-Lock.new cells can note more) c.put_lock.ensures.content c.put_lock.ensures.cells c.put_lock.ensures.noted
+    notes_put (content s.families) (content c.put_lock.new.self) (numbers s.families) (numbers c.put_lock.new.self)
+    b.key _ s.taken c.args.number only b c.in-Lock.new cells can note more) c.put_lock.ensures.content
+    c.put_lock.ensures.cells c.put_lock.ensures.noted

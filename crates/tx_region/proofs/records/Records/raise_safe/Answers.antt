@@ -12,4 +12,6 @@ meets_none safe loaded b a (inr (upto, inl x)) = ap lock_in x.1
 meets_none safe loaded b a (inr (upto, inr is)) = ap lock_in is.1
 
 pub returns-clause-unlocked : goal.returns-clause-unlocked
-returns-clause-unlocked g c = meets_none c.args.self.now.safe c.args.loaded c.args.body.now c.plan_raise_safe-answer.result.answer c.plan_raise_safe-answer.ensures.answer
+returns-clause-unlocked g c =
+    meets_none c.args.self.now.safe c.args.loaded c.args.body.now c.plan_raise_safe-answer.result.answer
+    c.plan_raise_safe-answer.ensures.answer

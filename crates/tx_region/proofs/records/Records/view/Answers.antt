@@ -10,44 +10,56 @@ use Rattle.tx_region.proofs.records.Records.view.Goals as goal
 
 -- what is seen of the key that was spelt is seen of the key of the body
 module _ {E : Type 0} (cells : Key → Cells) (r : Result KeyView E) (key k : Key) (same : key ≡ k) where
-  seen_txn : (start commit : ℕ) → IfOk r (λ v. SeesTxn (cells key) start commit v) → IfOk r (λ v. SeesTxn (cells k) start commit v)
+  seen_txn : (start commit : ℕ) → IfOk r (λ v. SeesTxn (cells key) start commit v)
+      → IfOk r (λ v. SeesTxn (cells k) start commit v)
   seen_txn start commit = subst (λ (j : Key). IfOk r (λ v. SeesTxn (cells j) start commit v)) same
 
-  seen_resolve : (start commit t : ℕ) → commit ≡ t → IfOk r (λ v. SeesTxn (cells key) start commit v) → IfOk r (λ v. SeesTxn (cells k) start t v)
-  seen_resolve start commit t is seen = subst (λ (m : ℕ). IfOk r (λ v. SeesTxn (cells k) start m v)) is (seen_txn start commit seen)
+  seen_resolve : (start commit t : ℕ) → commit ≡ t → IfOk r (λ v. SeesTxn (cells key) start commit v)
+      → IfOk r (λ v. SeesTxn (cells k) start t v)
+  seen_resolve start commit t is seen =
+      subst (λ (m : ℕ). IfOk r (λ v. SeesTxn (cells k) start m v)) is (seen_txn start commit seen)
 
 pub returns-in-Commit-clause-ok : goal.returns-in-Commit-clause-ok
 returns-in-Commit-clause-ok g c =
     let cells = (region_of g.F.Holds.content c.args.self.now 0).cells in
     subst (λ (b : Body). IfOk c.txn_view.result (λ v. Sees cells b v)) (sym c.in-Commit.is)
-    (seen_txn cells c.txn_view.result c.args.key.now _ (c.requires.of ∙ ap key_in c.in-Commit.is) _ _ c.txn_view.ensures.ok)
+    (seen_txn cells c.txn_view.result c.args.key.now _ (c.requires.of ∙ ap key_in c.in-Commit.is) _ _
+    c.txn_view.ensures.ok)
 
 pub returns-in-BatchRollback-clause-ok : goal.returns-in-BatchRollback-clause-ok
 returns-in-BatchRollback-clause-ok g c =
     let cells = (region_of g.F.Holds.content c.args.self.now 0).cells in
     subst (λ (b : Body). IfOk c.txn_view-in-BatchRollback.result (λ v. Sees cells b v)) (sym c.in-BatchRollback.is)
-    (seen_txn cells c.txn_view-in-BatchRollback.result c.args.key.now _ (c.requires.of ∙ ap key_in c.in-BatchRollback.is) _ _ c.txn_view-in-BatchRollback.ensures.ok)
+    (seen_txn cells c.txn_view-in-BatchRollback.result c.args.key.now _
+    (c.requires.of ∙ ap key_in c.in-BatchRollback.is) _ _ c.txn_view-in-BatchRollback.ensures.ok)
 
 pub returns-in-TxnHeartBeat-clause-ok : goal.returns-in-TxnHeartBeat-clause-ok
 returns-in-TxnHeartBeat-clause-ok g c =
     let cells = (region_of g.F.Holds.content c.args.self.now 0).cells in
     subst (λ (b : Body). IfOk c.txn_view-in-TxnHeartBeat.result (λ v. Sees cells b v)) (sym c.in-TxnHeartBeat.is)
-    (seen_txn cells c.txn_view-in-TxnHeartBeat.result c.args.key.now _ (c.requires.of ∙ ap key_in c.in-TxnHeartBeat.is) _ _ c.txn_view-in-TxnHeartBeat.ensures.ok)
+    (seen_txn cells c.txn_view-in-TxnHeartBeat.result c.args.key.now _ (c.requires.of ∙ ap key_in c.in-TxnHeartBeat.is)
+    _ _ c.txn_view-in-TxnHeartBeat.ensures.ok)
 
 pub returns-in-CheckTxnStatus-clause-ok : goal.returns-in-CheckTxnStatus-clause-ok
 returns-in-CheckTxnStatus-clause-ok g c =
     let cells = (region_of g.F.Holds.content c.args.self.now 0).cells in
     subst (λ (b : Body). IfOk c.txn_view-in-CheckTxnStatus.result (λ v. Sees cells b v)) (sym c.in-CheckTxnStatus.is)
-    (seen_txn cells c.txn_view-in-CheckTxnStatus.result c.args.key.now _ (c.requires.of ∙ ap key_in c.in-CheckTxnStatus.is) _ _ c.txn_view-in-CheckTxnStatus.ensures.ok)
+    (seen_txn cells c.txn_view-in-CheckTxnStatus.result
+    c.args.key.now _ (c.requires.of ∙ ap key_in c.in-CheckTxnStatus.is) _ _ c.txn_view-in-CheckTxnStatus.ensures.ok)
 
 pub returns-in-CheckSecondaryLocks-clause-ok : goal.returns-in-CheckSecondaryLocks-clause-ok
 returns-in-CheckSecondaryLocks-clause-ok g c =
     let cells = (region_of g.F.Holds.content c.args.self.now 0).cells in
-    subst (λ (b : Body). IfOk c.txn_view-in-CheckSecondaryLocks.result (λ v. Sees cells b v)) (sym c.in-CheckSecondaryLocks.is)
-    (seen_txn cells c.txn_view-in-CheckSecondaryLocks.result c.args.key.now _ (c.requires.of ∙ ap key_in c.in-CheckSecondaryLocks.is) _ _ c.txn_view-in-CheckSecondaryLocks.ensures.ok)
+    subst (λ (b : Body). IfOk c.txn_view-in-CheckSecondaryLocks.result (λ v. Sees cells b v))
+    (sym c.in-CheckSecondaryLocks.is)
+    (seen_txn cells c.txn_view-in-CheckSecondaryLocks.result
+    c.args.key.now _ (c.requires.of ∙ ap key_in c.in-CheckSecondaryLocks.is) _ _
+    c.txn_view-in-CheckSecondaryLocks.ensures.ok)
 
 pub returns-in-ResolveLock-clause-ok : goal.returns-in-ResolveLock-clause-ok
 returns-in-ResolveLock-clause-ok g c =
     let cells = (region_of g.F.Holds.content c.args.self.now 0).cells in
     subst (λ (b : Body). IfOk c.txn_view-in-ResolveLock.result (λ v. Sees cells b v)) (sym c.in-ResolveLock.is)
-    (seen_resolve cells c.txn_view-in-ResolveLock.result c.args.key.now _ (c.requires.of ∙ ap key_in c.in-ResolveLock.is) _ _ _ c.commit.ensures c.txn_view-in-ResolveLock.ensures.ok)
+    (seen_resolve cells c.txn_view-in-ResolveLock.result
+    c.args.key.now _ (c.requires.of ∙ ap key_in c.in-ResolveLock.is) _ _ _ c.commit.ensures
+    c.txn_view-in-ResolveLock.ensures.ok)

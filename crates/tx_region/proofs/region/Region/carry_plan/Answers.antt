@@ -20,11 +20,14 @@ make_by_bytes-requires g c =
     let same = c.is_above.ensures.same.0 in
     let number : s.seat.seat ≡ old.seat = ap (λ (k : Known). k.seat) c.self.view_is ∙ same in
     let here = seen_inside bounds old c.is_above.new.self s.seat c.self.view_is same c.is_above.ensures.seen in
-    let plan = plan_holds bounds old s.seat here number (content s.records.families) s.records.safe s.records.collected s.records.taken (g.F.Holds.numbers s.records.families) c.self.invariant c.args.loaded.now.mark c.args.loaded.now.last q.body c.args.planned c.requires.plan in
+    let plan = plan_holds bounds old s.seat here number (content s.records.families) s.records.safe s.records.collected
+    s.records.taken (g.F.Holds.numbers s.records.families) c.self.invariant c.args.loaded.now.mark
+    c.args.loaded.now.last q.body c.args.planned c.requires.plan in
     record {
       of_key = subst IsOfKey (sym c.body.ensures.body) c.requires.of_key;
       of = c.requires.bytes ∙ ap key_in (sym c.body.ensures.body);
-      may = subst (λ (b : Body). MayMake b ((region_of content s.records 0).cells (key_in b)) c.args.planned.change) (sym c.body.ensures.body) plan.may;
+      may = subst (λ (b : Body). MayMake b ((region_of content s.records 0).cells (key_in b)) c.args.planned.change)
+          (sym c.body.ensures.body) plan.may;
     }
 
 pub reply_done-requires : goal.reply_done-requires
@@ -41,12 +44,28 @@ reply_done-requires g c =
     let a = c.in-Ok.done.answer in
     let read = c.in-Ok.done.read in
     let p = c.args.planned in
-    let above : IsAbove p.change s.seat.events = subst (λ (k : Known). IsAbove p.change k.events) (sym c.self.view_is) (c.is_above.ensures.above.0 (cc (c.if-not-is_above.false))) in
-    let out = subst (λ (b : Body). (m : ℕ) → CarriesOut (region_of content s.records m) (key_in b) (made b ((region_of content s.records m).cells (key_in b)) p.change) p a read (after m)) c.body.ensures.body c.in-Ok.ensures.ok in
+    let above : IsAbove p.change s.seat.events =
+    subst (λ (k : Known). IsAbove p.change k.events) (sym c.self.view_is)
+    (c.is_above.ensures.above.0 (cc (c.if-not-is_above.false))) in
+    let out = subst (λ (b : Body). (m : ℕ) → CarriesOut (region_of content s.records m) (key_in b)
+    (made b ((region_of content s.records m).cells (key_in b)) p.change) p a read (after m)) c.body.ensures.body
+    c.in-Ok.ensures.ok in
     record {
-      right = may_here bounds old s.seat here number (content s.records.families) s.records.safe s.records.collected s.records.taken (g.F.Holds.numbers s.records.families) c.self.invariant after (λ k. refl) q c.body.ensures.allowed c.requires.holds c.args.loaded.now.last c.args.loaded.now.mark c.requires.knows c.requires.mark p c.requires.plan above a read out;
-      read = reads_here bounds old s.seat here number (content s.records.families) s.records.safe s.records.collected s.records.taken (g.F.Holds.numbers s.records.families) c.self.invariant after (λ k. refl) q c.body.ensures.allowed c.requires.holds c.args.loaded.now.last c.args.loaded.now.mark c.requires.knows c.requires.mark p c.requires.plan above a read out;
-      knows = knows_here bounds old s.seat here number (content s.records.families) s.records.safe s.records.collected s.records.taken (g.F.Holds.numbers s.records.families) c.self.invariant after (λ k. refl) q c.body.ensures.allowed c.requires.holds c.args.loaded.now.last c.args.loaded.now.mark c.requires.knows c.requires.mark p c.requires.plan above a read out;
+      right = may_here bounds old s.seat here number (content s.records.families) s.records.safe s.records.collected
+          s.records.taken (g.F.Holds.numbers s.records.families) c.self.invariant after (λ k. refl) q
+          c.body.ensures.allowed c.requires.holds
+          c.args.loaded.now.last c.args.loaded.now.mark c.requires.knows c.requires.mark p c.requires.plan above a read
+          out;
+      read = reads_here bounds old s.seat here number (content s.records.families) s.records.safe s.records.collected
+          s.records.taken (g.F.Holds.numbers s.records.families) c.self.invariant after (λ k. refl) q
+          c.body.ensures.allowed c.requires.holds
+          c.args.loaded.now.last c.args.loaded.now.mark c.requires.knows c.requires.mark p c.requires.plan above a read
+          out;
+      knows = knows_here bounds old s.seat here number (content s.records.families) s.records.safe s.records.collected
+          s.records.taken (g.F.Holds.numbers s.records.families) c.self.invariant after (λ k. refl) q
+          c.body.ensures.allowed c.requires.holds
+          c.args.loaded.now.last c.args.loaded.now.mark c.requires.knows c.requires.mark p c.requires.plan above a read
+          out;
     }
 
 pub invariant_of-self-in-Ok : goal.invariant_of-self-in-Ok
@@ -66,12 +85,25 @@ invariant_of-self-in-Ok g c =
     let a = c.in-Ok.done.answer in
     let read = c.in-Ok.done.read in
     let p = c.args.planned in
-    let above : IsAbove p.change s.seat.events = subst (λ (k : Known). IsAbove p.change k.events) (sym c.self.view_is) (c.is_above.ensures.above.0 (cc (c.if-not-is_above.false))) in
-    let out = subst (λ (b : Body). (m : ℕ) → CarriesOut (region_of content s.records m) (key_in b) (made b ((region_of content s.records m).cells (key_in b)) p.change) p a read (after m)) c.body.ensures.body c.in-Ok.ensures.ok in
-    let does = does_here bounds old s.seat here number (content s.records.families) s.records.safe s.records.collected s.records.taken (numbers s.records.families) c.self.invariant after (λ k. refl) q c.body.ensures.allowed c.requires.holds c.args.loaded.now.last c.args.loaded.now.mark c.requires.knows c.requires.mark p c.requires.plan above a read out in
-    let counts = subst (λ (b : Body). Counts b s.records.taken (before 0).cells (numbers s.records.families) records.taken (after 0).cells (numbers records.families)) c.body.ensures.body c.in-Ok.ensures.counts in
+    let above : IsAbove p.change s.seat.events =
+    subst (λ (k : Known). IsAbove p.change k.events) (sym c.self.view_is)
+    (c.is_above.ensures.above.0 (cc (c.if-not-is_above.false))) in
+    let out = subst (λ (b : Body). (m : ℕ) → CarriesOut (region_of content s.records m) (key_in b)
+    (made b ((region_of content s.records m).cells (key_in b)) p.change) p a read (after m)) c.body.ensures.body
+    c.in-Ok.ensures.ok in
+    let does = does_here bounds old s.seat here number (content s.records.families) s.records.safe s.records.collected
+    s.records.taken (numbers s.records.families) c.self.invariant after (λ k. refl) q c.body.ensures.allowed
+    c.requires.holds c.args.loaded.now.last c.args.loaded.now.mark c.requires.knows c.requires.mark p
+    c.requires.plan above a read out in
+    let counts = subst (λ (b : Body). Counts b s.records.taken (before 0).cells
+    (numbers s.records.families) records.taken (after 0).cells (numbers records.families)) c.body.ensures.body
+    c.in-Ok.ensures.counts in
     let seat_now = c.reply_done.new.seat in
-    keeps_took bounds s.seat.seat s.seat.events q.body c.args.loaded.now.last a before after read c.self.invariant.left (λ k. refl) does seat_now.events c.reply_done.ensures.added c.self.invariant.inside (before 0).cells (after 0).cells (λ k. refl) (λ k. refl) s.records.taken (numbers s.records.families) (numbers records.families) c.self.invariant.count c.self.invariant.noted records.taken counts seat_now c.reply_done.ensures.same.0 refl
+    keeps_took bounds s.seat.seat s.seat.events q.body c.args.loaded.now.last a before after read c.self.invariant.left
+    (λ k. refl) does seat_now.events c.reply_done.ensures.added c.self.invariant.inside (before 0).cells
+    (after 0).cells (λ k. refl) (λ k. refl) s.records.taken (numbers s.records.families)
+    (numbers records.families) c.self.invariant.count c.self.invariant.noted records.taken counts seat_now
+    c.reply_done.ensures.same.0 refl
 
 pub invariant_of-self : goal.invariant_of-self
 invariant_of-self g c =
@@ -79,7 +111,10 @@ invariant_of-self g c =
     let numbers = g.F.Holds.numbers in
     let s = c.self.inside in
     let records = c.make_by_bytes.new.self in
-    keeps_same g.J.JournalId.bounds s.seat c.tell-told.new.self (region_of content s.records) (region_of content records) s.records.taken records.taken (numbers s.records.families) (numbers records.families) c.tell-told.ensures.same c.in-Err.ensures.same c.in-Err.ensures.same_numbers c.self.invariant
+    keeps_same g.J.JournalId.bounds s.seat c.tell-told.new.self (region_of content s.records)
+    (region_of content records) s.records.taken records.taken (numbers s.records.families)
+    (numbers records.families) c.tell-told.ensures.same c.in-Err.ensures.same c.in-Err.ensures.same_numbers
+    c.self.invariant
 
 pub returns-clause-comes : goal.returns-clause-comes
 returns-clause-comes g c =
@@ -95,13 +130,23 @@ returns-clause-comes g c =
     let a = c.in-Ok.done.answer in
     let read = c.in-Ok.done.read in
     let p = c.args.planned in
-    let above : IsAbove p.change s.seat.events = subst (λ (k : Known). IsAbove p.change k.events) (sym c.self.view_is) (c.is_above.ensures.above.0 (cc (c.if-not-is_above.false))) in
-    let out = subst (λ (b : Body). (m : ℕ) → CarriesOut (region_of content s.records m) (key_in b) (made b ((region_of content s.records m).cells (key_in b)) p.change) p a read (after m)) c.body.ensures.body c.in-Ok.ensures.ok in
+    let above : IsAbove p.change s.seat.events =
+    subst (λ (k : Known). IsAbove p.change k.events) (sym c.self.view_is)
+    (c.is_above.ensures.above.0 (cc (c.if-not-is_above.false))) in
+    let out = subst (λ (b : Body). (m : ℕ) → CarriesOut (region_of content s.records m) (key_in b)
+    (made b ((region_of content s.records m).cells (key_in b)) p.change) p a read (after m)) c.body.ensures.body
+    c.in-Ok.ensures.ok in
     let given = c.reply_done.result in
     let reply = c.reply_done.ensures in
-    let added = subst (λ (h : History). HasRecorded bounds s.seat.seat s.seat.events (Took record { region = s.seat.seat; body = q.body; loaded = c.args.loaded.now.last; answer = a }) h) reply.told reply.added in (
+    let added = subst (λ (h : History). HasRecorded bounds s.seat.seat s.seat.events
+    (Took record { region = s.seat.seat; body = q.body; loaded = c.args.loaded.now.last; answer = a }) h) reply.told
+    reply.added in (
       reply.request,
       reply.told,
-      if_some_is given.answer a _ reply.answer (carried bounds old s.seat here number (content s.records.families) s.records.safe s.records.collected s.records.taken (g.F.Holds.numbers s.records.families) c.self.invariant after (λ k. refl) q c.body.ensures.allowed c.requires.holds c.args.loaded.now.last c.args.loaded.now.mark c.requires.knows c.requires.mark p c.requires.plan above a read out given reply.request added),
+      if_some_is given.answer a _ reply.answer (carried bounds old s.seat here number (content s.records.families)
+          s.records.safe s.records.collected s.records.taken (g.F.Holds.numbers s.records.families) c.self.invariant
+          after (λ k. refl) q c.body.ensures.allowed c.requires.holds c.args.loaded.now.last
+          c.args.loaded.now.mark c.requires.knows c.requires.mark p c.requires.plan above a read out given reply.request
+          added),
       if_none_is given.answer a _ reply.answer,
     )

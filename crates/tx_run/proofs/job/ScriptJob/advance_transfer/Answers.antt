@@ -1,7 +1,7 @@
-use Rattle.std.proofs.Common.{ℕ, Some, map, sym, ap, ◌∙◌}
+use Rattle.std.proofs.Common.{ℕ, [], Some, map, sym, ap, ◌∙◌}
 use Rattle.std.specs.Prelude.{reverse}
 use Rattle.tx_run.specs.LineNumbers.{number_of}
-use Rattle.tx_run.specs.States.{going_of}
+use Rattle.tx_run.specs.States.{buffer_of, going_of}
 use Rattle.tx_run.specs.Jobs.{Working}
 use Rattle.tx_run.proofs.job.ScriptJob.advance_transfer.Goals as goal
 
@@ -12,8 +12,12 @@ returns-in-Transfer g c =
       log = c.self.inside.log;
       going = going_of c.self.inside.state (λ transfer. transfer.value);
       left = map number_of (reverse c.self.inside.lines.items);
+      entered = buffer_of c.self.inside.state (λ session. session.value.state.buffer);
       faulted = c.self.inside.faulted;
     } in
-    ap (λ (n : ℕ). record j { going = Some n }) (c.step.ensures ∙ c.deref_mut.ensures.value)
-    ∙ ap (λ s. record j { going = going_of s (λ transfer. transfer.value) }) (sym c.in-Transfer.is)
+    ap (λ (n : ℕ). record j { going = Some n; entered = [] }) (c.step.ensures ∙ c.deref_mut.ensures.value)
+    ∙ ap (λ s. record j {
+      going = going_of s (λ transfer. transfer.value);
+      entered = buffer_of s (λ session. session.value.state.buffer);
+    }) (sym c.in-Transfer.is)
     ∙ c.self.view_is

@@ -3,7 +3,7 @@ use Rattle.std.specs.Prelude.{reverse, IfSome}
 use Rattle.tx_run.specs.Jobs.{Working}
 use Rattle.tx_run.specs.LineNumbers.{number_of}
 use Rattle.tx_run.specs.States.{buffer_of, going_of}
-use Rattle.tx_run.proofs.Leaving.{one_own, owns_left, some_left, sound_left}
+use Rattle.tx_run.proofs.Leaving.{one_before, one_entered, one_own, owns_left, some_left, sound_left}
 use Rattle.tx_run.proofs.job.ScriptJob.next_line.Goals as goal
 
 pub invariant_of-self : goal.invariant_of-self
@@ -15,11 +15,12 @@ invariant_of-self g c =
       log = c.self.inside.log;
       going = going_of c.self.inside.state (λ transfer. transfer.value);
       left = map number_of (reverse old);
+      entered = buffer_of c.self.inside.state (λ session. session.value.state.buffer);
       faulted = c.self.inside.faulted;
     } in
     let buffer = buffer_of c.self.inside.state (λ session. session.value.state.buffer) in (
       sound_left number_of j old new c.pop.result c.pop.ensures.items c.self.invariant.0,
-      owns_left number_of g.L.Source.text j.number buffer old new c.pop.result c.pop.ensures.items c.self.invariant.1,
+      owns_left number_of g.L.Source.text j.number old new buffer c.pop.result c.pop.ensures.items c.self.invariant.1,
     )
 
 pub returns-clause-some : goal.returns-clause-some
@@ -31,6 +32,7 @@ returns-clause-some g c =
       log = c.self.inside.log;
       going = going_of c.self.inside.state (λ transfer. transfer.value);
       left = map number_of (reverse old);
+      entered = buffer_of c.self.inside.state (λ session. session.value.state.buffer);
       faulted = c.self.inside.faulted;
     } in
     subst (λ (w : Working). IfSome c.pop.result (λ line.
@@ -41,3 +43,14 @@ pub returns-clause-own : goal.returns-clause-own
 returns-clause-own g c =
     one_own number_of g.L.Source.text c.self.inside.number c.self.inside.lines.items c.pop.new.self.items c.pop.result
     c.pop.ensures.items c.self.invariant.1.lines
+
+pub returns-clause-later : goal.returns-clause-later
+returns-clause-later g c =
+    one_before number_of g.L.Source.text c.self.inside.number c.self.inside.lines.items c.pop.new.self.items c.pop.result
+    c.pop.ensures.items c.self.invariant.1.lines
+
+pub returns-clause-entered : goal.returns-clause-entered
+returns-clause-entered g c =
+    one_entered number_of g.L.Source.text c.self.inside.number c.self.inside.lines.items c.pop.new.self.items
+    (buffer_of c.self.inside.state (λ session. session.value.state.buffer)) c.pop.result c.pop.ensures.items
+    c.self.invariant.1.entered

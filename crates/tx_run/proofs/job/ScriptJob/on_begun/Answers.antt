@@ -4,7 +4,7 @@ use Rattle.tx_run.specs.declared.reply.LineAnswer.TheVariants.{Plain}
 use Rattle.tx_run.specs.Jobs.{Working}
 use Rattle.tx_run.specs.Logs.{answer_to}
 use Rattle.tx_run.specs.Tells.{TellsLine}
-use Rattle.tx_run.proofs.Evidence.{start_tells}
+use Rattle.tx_run.proofs.Evidence.{session_step, start_tells}
 use Rattle.tx_run.proofs.Going.{may_heard, may_still}
 use Rattle.tx_run.proofs.job.ScriptJob.on_begun.Goals as goal
 
@@ -21,10 +21,13 @@ report-requires-clause-tells g c =
 pub report-requires-clause-may : goal.report-requires-clause-may
 report-requires-clause-may g c =
     let heard = c.hear.new.self in
-    may_still heard c.set_state.new.self c.set_state.ensures
+    may_still heard c.set_state.new.self _ c.set_state.ensures
     (may_heard c.args.self.now heard heard.log.told c.args.number c.hear.ensures.job c.requires.may).1
 
 pub stop-requires-clause-may : goal.stop-requires-clause-may
 stop-requires-clause-may g c =
     let heard = c.hear.new.self in
     may_heard c.args.self.now heard heard.log.told c.args.number c.hear.ensures.job c.requires.may
+
+pub stop-requires-clause-says : goal.stop-requires-clause-says
+stop-requires-clause-says g c = session_step g.L.Source.text c.args.number c.requires.says

@@ -1,12 +1,15 @@
-use Rattle.std.proofs.Common.{ap, sym, subst, ◌∙◌}
+use Rattle.std.proofs.Common.{◌+◌, ap, sym, subst, ◌∙◌}
 use Rattle.tx_client.specs.Calls.{Seated}
 use Rattle.tx_core.specs.Histories.{Begins}
 use Rattle.tx_steps.specs.Steps.{asked}
 use Rattle.tx_run.specs.declared.reply.LineAnswer.TheVariants.{Plain}
 use Rattle.tx_run.specs.Jobs.{Working}
 use Rattle.tx_run.specs.Logs.{answer_to}
-use Rattle.tx_run.specs.Tells.{TellsLine}
+use Rattle.tx_run.specs.Tells.{AreEntered, EnteredBy, TellsLine}
+use Rattle.tx_evidence.specs.Buffers.{AllBy}
+use Rattle.tx_transaction.specs.Sessions.{SessionState}
 use Rattle.tx_run.proofs.Evidence.{answer_tells, line_tells_on}
+use Rattle.tx_run.proofs.OwnLines.{later_entered}
 use Rattle.tx_run.proofs.job.ScriptJob.operate.Goals as goal
 
 pub on_answer-requires-clause-may : goal.on_answer-requires-clause-may
@@ -28,3 +31,16 @@ on_answer-requires-clause-tells g c =
     (line_tells_on source bounds seen c.hear.new.self.log.told knows line
     (answer_tells source bounds seen c.args.number (asked c.args.step) c.result_of-result.result c.requires.says
     c.result_of-result.ensures.tells))
+
+pub set_state-requires-clause-own : goal.set_state-requires-clause-own
+set_state-requires-clause-own g c =
+    let source = g.L.Source.text in
+    let job = c.args.self.now.number in
+    let line = c.args.number in
+    let es = c.hear.new.session.state.buffer in
+    let same = c.hear.ensures.state ∙ ap (λ (s : Seated). s.state) c.deref_mut-2.ensures.value in
+    let own = subst (λ (s : SessionState). AllBy (EnteredBy source job (line + 1)) s.buffer) (sym same)
+    c.result_of-result.ensures.own in
+    let entered = later_entered source job line c.args.self.now.left es c.requires.later own in
+    subst (λ (w : Working). AreEntered source w.number w.left es) (sym c.hear.ensures.job)
+    (subst (λ (w : Working). AreEntered source w.number w.left es) (sym c.result_of-result.ensures.job) entered)

@@ -1,11 +1,11 @@
 use Rattle.std.proofs.Common.{map, sym, subst, ◌∙◌, Ok}
 use Rattle.std.specs.Prelude.{reverse}
 use Rattle.tx_run.specs.LineNumbers.{number_of}
-use Rattle.tx_run.specs.States.{going_of}
+use Rattle.tx_run.specs.States.{buffer_of, going_of}
 use Rattle.tx_run.specs.declared.reply.LineAnswer.TheVariants.{Plain}
 use Rattle.tx_run.specs.Logs.{answer_to}
 use Rattle.tx_run.specs.Tells.{TellsLine}
-use Rattle.tx_run.specs.Jobs.{GoesOn, MayAnswer, Working, with_line}
+use Rattle.tx_run.specs.Jobs.{JobGoesOn, MayAnswer, Working, with_line}
 use Rattle.tx_run.proofs.Going.{answered}
 use Rattle.tx_run.proofs.job.ScriptJob.report.Goals as goal
 
@@ -16,10 +16,11 @@ returns g c =
       log = c.self.inside.log;
       going = going_of c.self.inside.state (λ transfer. transfer.value);
       left = map number_of (reverse c.self.inside.lines.items);
+      entered = buffer_of c.self.inside.state (λ session. session.value.state.buffer);
       faulted = c.self.inside.faulted;
     } in
     let is = c.self.view_is ∙ c.meet.ensures in
-    subst (λ (w : Working). GoesOn (with_line c.args.number w) (record j { log = c.keep.new.self })) is
+    subst (λ (w : Working). JobGoesOn (with_line c.args.number w) (record j { log = c.keep.new.self })) is
     (answered j c.keep.new.self c.args.number (Plain (Ok c.args.plain)) (subst MayAnswer (sym is) c.requires.may)
     c.keep.ensures.same.0 c.keep.ensures.kept)
 

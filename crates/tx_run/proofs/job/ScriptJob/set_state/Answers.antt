@@ -2,7 +2,7 @@ use Rattle.std.proofs.Common.{ap, ◌∙◌, map}
 use Rattle.std.specs.Prelude.{reverse}
 use Rattle.tx_run.specs.Jobs.{Working}
 use Rattle.tx_run.specs.LineNumbers.{number_of}
-use Rattle.tx_run.specs.States.{going_of}
+use Rattle.tx_run.specs.States.{buffer_of, going_of}
 use Rattle.tx_run.proofs.job.ScriptJob.set_state.Goals as goal
 
 pub returns : goal.returns
@@ -12,7 +12,14 @@ returns g c =
       log = c.self.inside.log;
       going = going_of c.self.inside.state (λ transfer. transfer.value);
       left = map number_of (reverse c.self.inside.lines.items);
+      entered = buffer_of c.self.inside.state (λ session. session.value.state.buffer);
       faulted = c.self.inside.faulted;
     } in
-    ap (λ s. record j { going = going_of s (λ transfer. transfer.value) }) c.replace.ensures.after
-    ∙ ap (λ (w : Working). record w { going = going_of c.args.state (λ transfer. transfer.value) }) c.self.view_is
+    ap (λ s. record j {
+      going = going_of s (λ transfer. transfer.value);
+      entered = buffer_of s (λ session. session.value.state.buffer);
+    }) c.replace.ensures.after
+    ∙ ap (λ (w : Working). record w {
+      going = going_of c.args.state (λ transfer. transfer.value);
+      entered = buffer_of c.args.state (λ session. session.value.state.buffer);
+    }) c.self.view_is

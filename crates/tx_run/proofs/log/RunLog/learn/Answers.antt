@@ -17,6 +17,7 @@ invariant_of-self g c =
       c.self.invariant.1,
       subst (λ h. All (TellsLine g.L.Source.text g.J.JournalId.bounds h) c.self.inside.replies.items)
           (sym c.tell.ensures.told)
-          (lines_tell_on g.L.Source.text g.J.JournalId.bounds c.self.inside.told events knows c.self.inside.replies.items
+          (lines_tell_on g.L.Source.text g.J.JournalId.bounds c.self.inside.told events knows
+          c.self.inside.replies.items
           c.self.invariant.2),
     )

@@ -11,7 +11,8 @@ returns-in-Some-clause-sorted g c =
     let r = c.args.self.now in
     before_known g.L.Source.text (number_of c.args.line) c.requires.some (get_by_text r.indexes)
     (numbers_in r.script.sessions.items) (map (λ seed. seed.number) r.script.seeds.items) r.script.bounds.items
-    c.args.name.now c.in-Some.index.now (numbers_in c.add_line.new.sessions.items) c.requires.named (sym c.in-Some.ensures.value)
+    c.args.name.now c.in-Some.index.now (numbers_in c.add_line.new.sessions.items) c.requires.named
+    (sym c.in-Some.ensures.value)
     (λ within. c.in_ok-add_line.ensures.added
     (omega (arith, within, length-map r.script.sessions.items (λ v. map number_of v.items), r.script.sessions.ok.0)))
     c.requires.sorted
@@ -30,7 +31,8 @@ returns-clause-sorted g c =
     (sym c.in_ok-begin.ensures.seeds)
     (before_new g.L.Source.text (number_of c.args.line) c.requires.some (get_by_text r.indexes)
     (numbers_in r.script.sessions.items) (map (λ seed. seed.number) r.script.seeds.items) r.script.bounds.items
-    c.args.name.now (get_by_text n.indexes) (numbers_in n.script.sessions.items) c.requires.named (sym c.in_default.ensures.value)
+    c.args.name.now (get_by_text n.indexes) (numbers_in n.script.sessions.items) c.requires.named
+    (sym c.in_default.ensures.value)
     c.in_ok-begin.ensures.sessions
     (λ q. c.in_ok-begin.ensures.indexes q ∙ ap (λ (k : ℕ). if bytes_eq c.args.name.now q then Some k
     else get_by_text r.indexes q) count) c.requires.sorted))

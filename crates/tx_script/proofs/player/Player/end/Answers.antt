@@ -1,13 +1,14 @@
 use Rattle.std.proofs.Common.{sym, subst}
 use Rattle.std.proofs.Common.{ℕ, List}
 use Rattle.serde_json.specs.Data.{Items}
-use Rattle.tx_script.specs.Loops.{Kept}
+use Rattle.tx_script.specs.Loops.{BetweenLines}
 use Rattle.tx_script.specs.Players.{PlayerState, HasPlayed, EndWellWith}
 use Rattle.tx_script.proofs.Players.{kept, ends}
 use Rattle.tx_script.proofs.player.Player.end.Goals as goal
 
 pub close-requires-clause-kept : goal.close-requires-clause-kept
-close-requires-clause-kept g c = subst (λ (p : PlayerState). Kept g.J.JournalId.bounds p.engine) (sym c.self.view_is)
+close-requires-clause-kept g c =
+    subst (λ (p : PlayerState). BetweenLines g.J.JournalId.bounds p.engine) (sym c.self.view_is)
     (kept g.J.JournalId.bounds c.args.self c.requires.player)
 
 pub returns : goal.returns

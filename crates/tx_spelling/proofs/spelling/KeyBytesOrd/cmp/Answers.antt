@@ -8,7 +8,8 @@ returns-then-self-other c =
     let a = c.self.inside in
     let b = c.other.inside in
     rw (sym c.self.view_is, sym c.other.view_is) (
-    c.cmp.ensures ∙ sym (first_decides c.key_order.ensures a.first b.first (marker_of a.behind) (marker_of b.behind) (rest_of a.behind) (rest_of b.behind) a.key.0 b.key.0 a.key.1 b.key.1 c.if-self-other.true)
+    c.cmp.ensures ∙ sym (first_decides c.key_order.ensures a.first b.first (marker_of a.behind)
+    (marker_of b.behind) (rest_of a.behind) (rest_of b.behind) a.key.0 b.key.0 a.key.1 b.key.1 c.if-self-other.true)
     )
 
 pub returns : goal.returns
@@ -16,5 +17,7 @@ returns c =
     let a = c.self.inside in
     let b = c.other.inside in
     rw (sym c.self.view_is, sym c.other.view_is) (
-    c.order.ensures ∙ sym (behind_decides c.key_order.ensures a.first b.first (marker_of a.behind) (marker_of b.behind) (rest_of a.behind) (rest_of b.behind) a.key.0 b.key.0 a.key.1 b.key.1 c.if-self-other.false)
+    c.order.ensures ∙ sym (behind_decides c.key_order.ensures a.first b.first (marker_of a.behind)
+    (marker_of b.behind) (rest_of a.behind) (rest_of b.behind) a.key.0 b.key.0 a.key.1 b.key.1
+    c.if-self-other.false)
     )

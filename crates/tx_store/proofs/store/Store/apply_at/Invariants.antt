@@ -3,4 +3,5 @@ use Rattle.tx_store.proofs.store.Store.apply_at.Given as goal
 
 -- the try stays
 abbrev pub invariant-loop : goal.invariant-loop
-invariant-loop g l = (goal.iterator-loop g).can_next l.iterator' × (goal.iterator-loop g).is_finite l.iterator' × (l.attempt ≡ l.fn.attempt)
+invariant-loop g l = (goal.iterator-loop g).can_next l.iterator' × (goal.iterator-loop g).is_finite l.iterator'
+    × (l.attempt ≡ l.fn.attempt)

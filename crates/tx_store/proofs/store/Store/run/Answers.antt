@@ -2,7 +2,9 @@ use Rattle.tx_store.proofs.Answering.{is_answered}
 use Rattle.tx_store.proofs.store.Store.run.Goals as goal
 
 pub returns-then-is_of_key-clause-answered : goal.returns-then-is_of_key-clause-answered
-returns-then-is_of_key-clause-answered g c = is_answered g.J.JournalId.bounds c.args.request c.run_at.result c.run_at.ensures.request c.run_at.ensures.given
+returns-then-is_of_key-clause-answered g c =
+    is_answered g.J.JournalId.bounds c.args.request c.run_at.result c.run_at.ensures.request c.run_at.ensures.given
 
 pub returns-else-is_of_key-clause-answered : goal.returns-else-is_of_key-clause-answered
-returns-else-is_of_key-clause-answered g c = is_answered g.J.JournalId.bounds c.args.request c.take_at.result c.take_at.ensures.request c.take_at.ensures.given
+returns-else-is_of_key-clause-answered g c =
+    is_answered g.J.JournalId.bounds c.args.request c.take_at.result c.take_at.ensures.request c.take_at.ensures.given

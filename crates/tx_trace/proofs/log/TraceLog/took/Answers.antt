@@ -3,23 +3,25 @@ use Rattle.std.specs.Prelude.{OnOk}
 use Rattle.tx_plan.specs.declared.body.Body.TheVariants as body
 use Rattle.tx_core.specs.Decisions.{fate_in}
 use Rattle.tx_core.specs.EventSteps.{reading}
-use Rattle.tx_trace.specs.Logs.{Writes, Tells, Prewrites}
+use Rattle.tx_trace.specs.Logs.{AddsSteps, TellsFate, Prewrites}
 use Rattle.tx_trace.proofs.Requests.{on_ok, Follow, get_adds, scan_adds, prewrite_adds, commit_adds, rollback_adds, beat_adds, check_adds, secondary_adds, resolve_adds, region_adds}
 use Rattle.tx_trace.proofs.log.TraceLog.took.Goals as goal
 
 pub returns-in-Get-clause-ok : goal.returns-in-Get-clause-ok
 returns-in-Get-clause-ok c =
-    on_ok c.read.result (Writes (reading (body.Get c.in-Get.body) c.args.answer.now) c.args.self.now c.read.new.self)
+    on_ok c.read.result (AddsSteps (reading (body.Get c.in-Get.body) c.args.answer.now) c.args.self.now c.read.new.self)
     (Follow c.args.self.now c.args.body.now c.args.answer.now c.read.new.self)
     (λ w x e f. get_adds c.args.self.now c.read.new.self c.in-Get.body c.args.answer.now w x (e ∙ c.in-Get.is) f)
     c.read.ensures.ok
 
 pub returns-in-Scan-clause-ok : goal.returns-in-Scan-clause-ok
 returns-in-Scan-clause-ok c =
-    on_ok c.scan.result (Writes (reading (body.Scan c.in-Scan.body) c.args.answer.now) c.args.self.now c.scan.new.self)
+    on_ok c.scan.result (AddsSteps (reading (body.Scan c.in-Scan.body) c.args.answer.now) c.args.self.now
+    c.scan.new.self)
     (Follow c.args.self.now c.args.body.now c.args.answer.now c.scan.new.self)
     (λ w x e f. scan_adds c.args.self.now c.scan.new.self c.in-Scan.body c.args.answer.now w x (e ∙ c.in-Scan.is) f)
-    (subst (λ b. OnOk c.scan.result (Writes (reading (body.Scan b) c.args.answer.now) c.args.self.now c.scan.new.self))
+    (subst (λ b. OnOk c.scan.result
+    (AddsSteps (reading (body.Scan b) c.args.answer.now) c.args.self.now c.scan.new.self))
     c.asked.ensures c.scan.ensures.ok)
 
 pub returns-in-Prewrite-clause-ok : goal.returns-in-Prewrite-clause-ok
@@ -33,7 +35,7 @@ returns-in-Prewrite-clause-ok c =
 
 pub returns-in-Commit-clause-ok : goal.returns-in-Commit-clause-ok
 returns-in-Commit-clause-ok c =
-    on_ok c.tell.result (Tells c.in-Commit.body.start (fate_in c.args.answer.now) c.args.self.now c.tell.new.self)
+    on_ok c.tell.result (TellsFate c.in-Commit.body.start (fate_in c.args.answer.now) c.args.self.now c.tell.new.self)
     (Follow c.args.self.now c.args.body.now c.args.answer.now c.tell.new.self)
     (λ w x e f. commit_adds c.args.self.now c.tell.new.self c.in-Commit.body c.args.answer.now w x (e
     ∙ c.in-Commit.is) f) c.tell.ensures.ok
@@ -41,7 +43,8 @@ returns-in-Commit-clause-ok c =
 pub returns-in-BatchRollback-clause-ok : goal.returns-in-BatchRollback-clause-ok
 returns-in-BatchRollback-clause-ok c =
     on_ok c.tell-in-BatchRollback.result
-    (Tells c.in-BatchRollback.body.start (fate_in c.args.answer.now) c.args.self.now c.tell-in-BatchRollback.new.self)
+    (TellsFate c.in-BatchRollback.body.start (fate_in c.args.answer.now) c.args.self.now
+    c.tell-in-BatchRollback.new.self)
     (Follow c.args.self.now c.args.body.now c.args.answer.now c.tell-in-BatchRollback.new.self)
     (λ w x e f. rollback_adds c.args.self.now c.tell-in-BatchRollback.new.self c.in-BatchRollback.body c.args.answer.now
     w x (e ∙ c.in-BatchRollback.is) f) c.tell-in-BatchRollback.ensures.ok
@@ -49,7 +52,7 @@ returns-in-BatchRollback-clause-ok c =
 pub returns-in-TxnHeartBeat-clause-ok : goal.returns-in-TxnHeartBeat-clause-ok
 returns-in-TxnHeartBeat-clause-ok c =
     on_ok c.tell-in-TxnHeartBeat.result
-    (Tells c.in-TxnHeartBeat.body.start (fate_in c.args.answer.now) c.args.self.now c.tell-in-TxnHeartBeat.new.self)
+    (TellsFate c.in-TxnHeartBeat.body.start (fate_in c.args.answer.now) c.args.self.now c.tell-in-TxnHeartBeat.new.self)
     (Follow c.args.self.now c.args.body.now c.args.answer.now c.tell-in-TxnHeartBeat.new.self)
     (λ w x e f. beat_adds c.args.self.now c.tell-in-TxnHeartBeat.new.self c.in-TxnHeartBeat.body c.args.answer.now w x
     (e ∙ c.in-TxnHeartBeat.is) f) c.tell-in-TxnHeartBeat.ensures.ok
@@ -57,7 +60,8 @@ returns-in-TxnHeartBeat-clause-ok c =
 pub returns-in-CheckTxnStatus-clause-ok : goal.returns-in-CheckTxnStatus-clause-ok
 returns-in-CheckTxnStatus-clause-ok c =
     on_ok c.tell-in-CheckTxnStatus.result
-    (Tells c.in-CheckTxnStatus.body.start (fate_in c.args.answer.now) c.args.self.now c.tell-in-CheckTxnStatus.new.self)
+    (TellsFate c.in-CheckTxnStatus.body.start (fate_in c.args.answer.now) c.args.self.now
+    c.tell-in-CheckTxnStatus.new.self)
     (Follow c.args.self.now c.args.body.now c.args.answer.now c.tell-in-CheckTxnStatus.new.self)
     (λ w x e f. check_adds c.args.self.now c.tell-in-CheckTxnStatus.new.self c.in-CheckTxnStatus.body c.args.answer.now
     w x (e ∙ c.in-CheckTxnStatus.is) f) c.tell-in-CheckTxnStatus.ensures.ok
@@ -65,7 +69,7 @@ returns-in-CheckTxnStatus-clause-ok c =
 pub returns-in-CheckSecondaryLocks-clause-ok : goal.returns-in-CheckSecondaryLocks-clause-ok
 returns-in-CheckSecondaryLocks-clause-ok c =
     on_ok c.tell-in-CheckSecondaryLocks.result
-    (Tells c.in-CheckSecondaryLocks.body.start (fate_in c.args.answer.now) c.args.self.now
+    (TellsFate c.in-CheckSecondaryLocks.body.start (fate_in c.args.answer.now) c.args.self.now
     c.tell-in-CheckSecondaryLocks.new.self)
     (Follow c.args.self.now c.args.body.now c.args.answer.now c.tell-in-CheckSecondaryLocks.new.self)
     (λ w x e f. secondary_adds c.args.self.now c.tell-in-CheckSecondaryLocks.new.self c.in-CheckSecondaryLocks.body
@@ -74,7 +78,7 @@ returns-in-CheckSecondaryLocks-clause-ok c =
 pub returns-in-ResolveLock-clause-ok : goal.returns-in-ResolveLock-clause-ok
 returns-in-ResolveLock-clause-ok c =
     on_ok c.tell-in-ResolveLock.result
-    (Tells c.in-ResolveLock.body.start (fate_in c.args.answer.now) c.args.self.now c.tell-in-ResolveLock.new.self)
+    (TellsFate c.in-ResolveLock.body.start (fate_in c.args.answer.now) c.args.self.now c.tell-in-ResolveLock.new.self)
     (Follow c.args.self.now c.args.body.now c.args.answer.now c.tell-in-ResolveLock.new.self)
     (λ w x e f. resolve_adds c.args.self.now c.tell-in-ResolveLock.new.self c.in-ResolveLock.body c.args.answer.now w x
     (e ∙ c.in-ResolveLock.is) f) c.tell-in-ResolveLock.ensures.ok

@@ -9,7 +9,9 @@ invariant_of-self c =
     let few = c.self.inside.few.items in
     let more = c.self.inside.more.entries in
     let lt : c.args.i < length few = omega (arith, c.if-i-few.true, c.len-few.ensures) in (
-      distinct_still _ _ c.args.i c.args.progress c.self.invariant.0 (progress_few few more c.args.i c.index_mut.result.now c.args.progress lt c.index_mut.ensures.value),
+      distinct_still _ _ c.args.i c.args.progress
+          c.self.invariant.0 (progress_few few more c.args.i c.index_mut.result.now c.args.progress lt
+          c.index_mut.ensures.value),
       room_set FEW few more c.args.i _ c.self.invariant.1,
     )
 
@@ -20,7 +22,9 @@ invariant_of-self-in-Some c =
     let n = c.len-few.result in
     let count : n ≡ length few = omega (arith, c.len-few.ensures) in
     let le : n ≤ c.args.i = omega (arith, c.if-i-few.false) in (
-      distinct_still _ _ c.args.i c.args.progress c.self.invariant.0 (progress_more few more c.args.i n c.in-Some.entry.now c.args.progress count le c.in-Some.ensures.value),
+      distinct_still _ _ c.args.i c.args.progress
+          c.self.invariant.0 (progress_more few more c.args.i n c.in-Some.entry.now c.args.progress count le
+          c.in-Some.ensures.value),
       room_value FEW few more _ _ c.self.invariant.1,
     )
 
@@ -29,7 +33,8 @@ returns-then-i-few c =
     let few = c.self.inside.few.items in
     let more = c.self.inside.more.entries in
     let lt : c.args.i < length few = omega (arith, c.if-i-few.true, c.len-few.ensures) in
-    progress_few few more c.args.i c.index_mut.result.now c.args.progress lt c.index_mut.ensures.value ∙ ap (λ es. with_progress es c.args.i c.args.progress) c.self.view_is
+    progress_few few more c.args.i c.index_mut.result.now c.args.progress lt c.index_mut.ensures.value
+    ∙ ap (λ es. with_progress es c.args.i c.args.progress) c.self.view_is
 
 pub returns-in-Some : goal.returns-in-Some
 returns-in-Some c =
@@ -38,4 +43,5 @@ returns-in-Some c =
     let n = c.len-few.result in
     let count : n ≡ length few = omega (arith, c.len-few.ensures) in
     let le : n ≤ c.args.i = omega (arith, c.if-i-few.false) in
-    progress_more few more c.args.i n c.in-Some.entry.now c.args.progress count le c.in-Some.ensures.value ∙ ap (λ es. with_progress es c.args.i c.args.progress) c.self.view_is
+    progress_more few more c.args.i n c.in-Some.entry.now c.args.progress count le c.in-Some.ensures.value
+    ∙ ap (λ es. with_progress es c.args.i c.args.progress) c.self.view_is

@@ -1,5 +1,5 @@
 use Rattle.std.proofs.Common.{sym, ap, ◌∙◌}
-use Rattle.tx_resolve.specs.Collecting.{gc_walk}
+use Rattle.tx_resolve.specs.Collection.{gc_walk}
 use Rattle.tx_transfer.specs.Collecting.{records_of}
 use Rattle.tx_transfer.proofs.Sending.{sent_over}
 use Rattle.tx_transfer.proofs.context.Context.collect.Goals as goal

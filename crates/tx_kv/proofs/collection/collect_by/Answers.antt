@@ -1,0 +1,19 @@
+use Rattle.tx_resolve.specs.Collection.{gc_walk}
+use Rattle.tx_reader.proofs.Seeing.{sees_more, sees_seen, sent_sees}
+use Rattle.tx_kv.proofs.collection.collect_by.Goals as goal
+
+pub returns-in_err-dropped-clause-seat : goal.returns-in_err-dropped-clause-seat
+returns-in_err-dropped-clause-seat g c =
+    sees_more c.args.seat.now c.last-now.new.self c.gc.new.seat
+    (sees_seen g.J.JournalId.bounds c.args.seat.now c.last-now.new.self c.last-now.ensures.same.0
+    c.last-now.ensures.same.1 c.last-now.ensures.seen)
+    (sent_sees g.S.Sender.sends g.J.JournalId.bounds (gc_walk g.J.JournalId.bounds c.least-safe.result)
+    c.last-now.new.self c.gc.new.seat c.args.sender.now c.gc.new.sender c.gc.result c.gc.ensures)
+
+pub returns-clause-seat : goal.returns-clause-seat
+returns-clause-seat g c =
+    sees_more c.args.seat.now c.last-now.new.self c.gc.new.seat
+    (sees_seen g.J.JournalId.bounds c.args.seat.now c.last-now.new.self c.last-now.ensures.same.0
+    c.last-now.ensures.same.1 c.last-now.ensures.seen)
+    (sent_sees g.S.Sender.sends g.J.JournalId.bounds (gc_walk g.J.JournalId.bounds c.least-safe.result)
+    c.last-now.new.self c.gc.new.seat c.args.sender.now c.gc.new.sender c.gc.result c.gc.ensures)

@@ -1,0 +1,68 @@
+use Rattle.std.proofs.Common.{◌≡◌, ◌++◌, ℕ, List, [], IsTrue, refl, rules, sym, subst, ◌∙◌}
+use Rattle.tx_types.specs.declared.key.Key.{Key}
+use Rattle.tx_types.specs.declared.mutation.KeyValue.{KeyValue}
+use Rattle.tx_types.specs.Keys.{is_scanned, key_le, key_lt}
+use Rattle.tx_plan.proofs.KeyOrder.{ge_false, ge_true, lt_le}
+use Rattle.tx_laws.specs.Rows.{AreRowsOf}
+use Rattle.tx_reader.proofs.Seeing.{sees_begins, sees_itself, sees_more}
+use Rattle.tx_simple.specs.Reads.{SeesOn}
+use Rattle.tx_simple.proofs.Paging.{AreSoFar, all_so_far, later_so_far, more_so_far, none_so_far}
+use Rattle.tx_simple.proofs.Ranging.{sees_later}
+use Rattle.tx_kv.proofs.ranges.pages.Goals as goal
+
+pub returns-in_err-next-clause-seat : goal.returns-in_err-next-clause-seat
+returns-in_err-next-clause-seat g c = sees_itself c.args.reader.now.seat
+
+pub loop-init : goal.loop-init
+loop-init g c =
+    let told = SeesOn g.J.JournalId.bounds c.args.reader.now.seat.events c.args.reader.now.at in (
+      refl,
+      sees_itself c.args.reader.now.seat,
+      subst (λ (rows : List KeyValue). AreSoFar told c.args.from.now c.args.to.now c.in_ok-next.next rows)
+          (sym c.new-rows.ensures.items)
+          (subst (λ (k : Key). AreSoFar told c.args.from.now c.args.to.now k []) (sym c.in_ok-next.ensures.ok)
+          (none_so_far told c.args.from.now c.args.to.now)),
+    )
+
+pub returns-then-ge-clause-finds : goal.returns-then-ge-clause-finds
+returns-then-ge-clause-finds g c =
+    let upto : IsTrue (key_le c.args.to.now c.loop.next) =
+    ge_true c.loop.next c.args.to.now (sym c.ge.ensures ∙ c.if-ge.true) in
+    all_so_far (SeesOn g.J.JournalId.bounds c.loop.reader.seat.events c.args.reader.now.at) c.args.from.now
+    c.args.to.now c.loop.next c.loop.rows.items c.loop.invariant.2 upto
+
+pub returns-in_err-part-clause-seat : goal.returns-in_err-part-clause-seat
+returns-in_err-part-clause-seat g c =
+    sees_more c.args.reader.now.seat c.loop.reader.seat c.page.new.reader.seat c.loop.invariant.1 c.page.ensures.seat
+
+pub returns-in_err-add_rows-clause-seat : goal.returns-in_err-add_rows-clause-seat
+returns-in_err-add_rows-clause-seat g c =
+    sees_more c.args.reader.now.seat c.loop.reader.seat c.page.new.reader.seat c.loop.invariant.1 c.page.ensures.seat
+
+pub loop-preserved : goal.loop-preserved
+loop-preserved g c =
+    let bounds = g.J.JournalId.bounds in
+    let at = c.args.reader.now.at in
+    let before = c.loop.reader.seat.events in
+    let events = c.page.new.reader.seat.events in
+    let told = SeesOn bounds events at in
+    let from = c.args.from.now in
+    let to = c.args.to.now in
+    let part = c.in_ok-part.part in
+    let below : IsTrue (key_lt c.loop.next to) = ge_false c.loop.next to (sym c.ge.ensures ∙ c.if-ge.false) in
+    let begins = sees_begins c.loop.reader.seat c.page.new.reader.seat c.page.ensures.seat in
+    let so_far = later_so_far (SeesOn bounds before at) told
+    (λ k o sees. sees_later bounds before events at begins k o sees) from to c.loop.next c.loop.rows.items
+    c.loop.invariant.2 in
+    let all : c.add_rows.new.rows.items ≡ c.loop.rows.items ++ c.split_page-more.result.0.items = search rules in
+    let page = subst
+    (λ (n : ℕ). AreRowsOf (is_scanned c.loop.next part.1 1024 part.0) (SeesOn bounds events n) part.0) c.loop.invariant.0
+    c.in_ok-part.ensures.finds in
+    let more = more_so_far told from to c.loop.next part.1 c.split_page-more.result.1 c.loop.rows.items part.0
+    c.split_page-more.result.0.items so_far (lt_le c.loop.next part.1 (c.in_ok-part.ensures.some below))
+    c.in_ok-part.ensures.upto page c.split_page-more.ensures in (
+      c.page.ensures.at ∙ c.loop.invariant.0,
+      sees_more c.args.reader.now.seat c.loop.reader.seat c.page.new.reader.seat c.loop.invariant.1 c.page.ensures.seat,
+      subst (λ (rows : List KeyValue). AreSoFar told from to c.split_page-more.result.1 rows)
+          (sym all) more,
+    )

@@ -1,0 +1,11 @@
+use Rattle.std.proofs.Common.{◌≡◌}
+use Rattle.tx_reader.specs.Readers.{OnlySees}
+use Rattle.tx_simple.specs.Reads.{SeesOn}
+use Rattle.tx_simple.proofs.Paging.{AreSoFar}
+use Rattle.tx_kv.proofs.ranges.pages.Given as goal
+
+-- it reads at the same timestamp, its seat has only seen what others did, and the rows so far are
+-- those up to where the next page begins
+abbrev pub invariant-loop : goal.invariant-loop
+invariant-loop g l = (l.reader.at ≡ l.fn.reader.at) × OnlySees l.fn.reader.seat l.reader.seat
+    × AreSoFar (SeesOn g.J.JournalId.bounds l.reader.seat.events l.fn.reader.at) l.fn.from l.fn.to l.next l.rows.items

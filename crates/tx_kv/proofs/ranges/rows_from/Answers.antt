@@ -1,0 +1,57 @@
+use Rattle.std.proofs.Common.{◌≡◌, ◌++◌, ℕ, List, None, Some, IfOk, IsTrue, rules, sym, subst, ◌∙◌}
+use Rattle.tx_types.specs.declared.mutation.KeyValue.{KeyValue}
+use Rattle.tx_types.specs.Keys.{key_le}
+use Rattle.tx_plan.proofs.KeyOrder.{not_lt}
+use Rattle.tx_reader.specs.Readers.{ReadsAt}
+use Rattle.tx_reader.proofs.Seeing.{sees_begins, sees_itself, sees_more}
+use Rattle.tx_simple.specs.Ranges.{greatest, row_of}
+use Rattle.tx_simple.specs.Reads.{SeesOn}
+use Rattle.tx_simple.proofs.Ranging.{range_above, range_with_top}
+use Rattle.tx_kv.specs.Views.{SeesRange}
+use Rattle.tx_kv.proofs.Viewing.{SeenAt, seen_now}
+use Rattle.tx_kv.proofs.ranges.rows_from.Goals as goal
+
+pub returns-in_err-top-clause-seat : goal.returns-in_err-top-clause-seat
+returns-in_err-top-clause-seat g c = sees_itself c.args.reader.now.seat
+
+pub returns-then-lt-clause-finds : goal.returns-then-lt-clause-finds
+returns-then-lt-clause-finds g c =
+    let events = c.pages.new.reader.seat.events in
+    let at = c.args.reader.now.at in
+    let is : c.in_ok-top.top ≡ greatest = search rules in
+    subst (λ (rows : List KeyValue). SeesRange events at (Some c.args.from.now) None rows) (sym c.from_vec-none.ensures)
+    (range_above (SeesOn g.J.JournalId.bounds events at) (SeenAt events at) c.args.from.now c.in_ok-top.top is
+    (sym c.lt.ensures ∙ c.if-lt.true) c.in_ok-rows.rows.items c.in_ok-rows.ensures.finds)
+
+pub returns-in_err-found-clause-seat : goal.returns-in_err-found-clause-seat
+returns-in_err-found-clause-seat g c =
+    sees_more c.args.reader.now.seat c.pages.new.reader.seat c.get-answered.new.self.seat c.pages.ensures.seat
+    c.get-answered.ensures.seat
+
+pub returns-in_err-add_last-clause-seat : goal.returns-in_err-add_last-clause-seat
+returns-in_err-add_last-clause-seat g c =
+    sees_more c.args.reader.now.seat c.pages.new.reader.seat c.get-answered.new.self.seat c.pages.ensures.seat
+    c.get-answered.ensures.seat
+
+pub returns : goal.returns
+returns g c =
+    let bounds = g.J.JournalId.bounds in
+    let at = c.args.reader.now.at in
+    let mid = c.pages.new.reader.seat in
+    let new = c.get-answered.new.self.seat in
+    let top = c.in_ok-top.top in
+    let upto : IsTrue (key_le c.args.from.now top) = not_lt top c.args.from.now (sym c.lt.ensures ∙ c.if-lt.false) in
+    let is : top ≡ greatest = search rules in
+    let all : c.add_last.new.rows.items ≡ c.in_ok-rows.rows.items ++ row_of top c.in_ok-found.found = search rules in
+    let reads = subst (λ (n : ℕ). IfOk c.get-answered.result (ReadsAt new.events n top)) c.pages.ensures.at
+    c.get-answered.ensures.finds in
+    record {
+      at = c.get-answered.ensures.at ∙ c.pages.ensures.at;
+      seat = sees_more c.args.reader.now.seat mid new c.pages.ensures.seat c.get-answered.ensures.seat;
+      finds = subst (λ (rows : List KeyValue). SeesRange new.events at (Some c.args.from.now) None rows)
+          (sym (c.from_vec-all.ensures ∙ all))
+          (range_with_top bounds new.events at (SeenAt new.events at) (seen_now bounds new.events c.know_run.ensures at)
+          mid.events (sees_begins mid new c.get-answered.ensures.seat) c.args.from.now top is
+          c.in_ok-rows.rows.items c.in_ok-rows.ensures.finds upto c.in_ok-found.found
+          (c.in_ok-found.ensures new.events at top reads));
+    }

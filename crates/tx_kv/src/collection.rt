@@ -1,0 +1,73 @@
+//! The collection of what no read can find any more.
+ghost use Rattle.std.specs.Prelude.{◌≡◌, ◌≤◌, IfOk};
+ghost use Rattle.tx_journal.specs.Senders.{IsSender, LosesNothing};
+ghost use Rattle.tx_reader.specs.Readers.{OnlySees};
+
+use crate::client::Client;
+use crate::live::Live;
+use std::sync::Wait;
+use tx_journal::{JournalId, Reply, Request, Seat, Sender};
+use tx_resolve::{Counts, gc};
+use tx_simple::Seats;
+use tx_store::Wire;
+use tx_types::{Fault, Ts};
+
+/// What a collection dropped, and at which safe point: no read below that is answered any more.
+#[derive(Clone, Copy, Debug)]
+pub struct Collected {
+    pub safe: Ts,
+    /// Write records, and values that stood apart from them.
+    pub dropped: Counts,
+}
+
+// Collects by a seat, at the least of `keep`, of the last timestamp and of those at which the
+// clients read.
+fn collect_by<J: JournalId, S: Sender<Request<J>, Reply<J>>>(
+    live: &Live,
+    keep: Ts,
+    seat: &mut Seat<J>,
+    sender: &mut S,
+) -> Result<Collected, Fault>
+    requires way { IsSender J.bounds S.fits S.sends S.keys_between }
+    requires lossless { LosesNothing S.sends }
+    ensures kept { IfOk result (λ collected. collected.safe ≤ keep) }
+    ensures seat { OnlySees seat.old seat.new }
+{
+    let now = seat.last();
+    let safe = live.least(keep, now);
+    let dropped = gc(seat, safe, sender)?;
+    Ok(Collected { safe, dropped })
+}
+
+impl<'a, J: JournalId, R: Wait> Client<'a, J, R> {
+    /// Drops what no read at `keep` or above finds, and no client that reads or writes by now: the
+    /// safe point is the least of `keep`, of the last timestamp that was drawn, and of those at
+    /// which the clients still read. First it resolves the locks of transactions that started below
+    /// it. `BelowSafePoint` where the safe point lies above already, `LocksRemain` where a lock
+    /// could not be resolved, and `OutOfMemory`; it may be asked again.
+    ///
+    /// ```
+    /// let collected = client.collect(Ts::new(u64::MAX)).ok()?;
+    /// let refused = matches!(byte_at(client, one), Err(Stop::BelowSafePoint));
+    /// ```
+    pub fn collect(&mut self, keep: Ts) -> Result<Collected, Fault>
+        ensures kept { IfOk result (λ collected. collected.safe ≤ keep) }
+        ensures begins { self.new.seats.begins ≡ self.old.seats.begins }
+        ensures resolves { OnlySees self.old.seats.resolves self.new.seats.resolves }
+        ensures terms { (self.new.terms ≡ self.old.terms) × (self.new.again ≡ self.old.again) }
+    {
+        let Some(
+            Seats {
+                begins,
+                mut resolves,
+            },
+        ) = self.seats.take()
+        else {
+            unreachable!()
+        };
+        let mut wire = Wire::new(self.rt, self.store);
+        let collected = collect_by(self.live, keep, &mut resolves, &mut wire);
+        self.seats = Some(Seats { begins, resolves });
+        collected
+    }
+}

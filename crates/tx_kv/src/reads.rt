@@ -1,0 +1,95 @@
+//! Reads of a client at a timestamp.
+ghost use Rattle.std.specs.Prelude.{◌≡◌, IfOk, Some};
+ghost use Rattle.tx_machine.specs.Machine.{Sees, table_of};
+ghost use Rattle.tx_core.specs.Shadow.{shadow};
+ghost use Rattle.tx_journal.specs.Known.{HasDrawn};
+ghost use Rattle.tx_reader.specs.Readers.{OnlySees};
+ghost use Rattle.tx_kv.specs.Views.{SeesRange};
+
+use crate::client::Client;
+use crate::found::found_in;
+use crate::ranges::rows_of;
+use std::sync::Wait;
+use tx_journal::JournalId;
+use tx_reader::Reader;
+use tx_simple::{KeyRange, Seats, Stop};
+use tx_store::Wire;
+use tx_types::{Fault, Key, KeyValues, Ts, Value};
+
+impl<'a, J: JournalId, R: Wait> Client<'a, J, R> {
+    /// A timestamp that is drawn for reads: what was committed before is seen there, and what is
+    /// read there stays. `OracleSpent` where the client has drawn 2^32 ticks.
+    ///
+    /// ```
+    /// let half = client.timestamp().ok()?;
+    /// ```
+    pub fn timestamp(&mut self) -> Result<Ts, Fault>
+        ensures drawn { IfOk result (λ at. HasDrawn J.bounds self.old.seats.resolves.seat
+            self.old.seats.resolves.events 1 at self.new.seats.resolves.events) }
+        ensures begins { self.new.seats.begins ≡ self.old.seats.begins }
+        ensures terms { (self.new.terms ≡ self.old.terms) × (self.new.again ≡ self.old.again) }
+    {
+        let drawn = self.draw_entered();
+        self.leave();
+        drawn
+    }
+
+    /// The same, of a client that reads there until it leaves.
+    pub(crate) fn draw_entered(&mut self) -> Result<Ts, Fault>
+        ensures drawn { IfOk result (λ at. HasDrawn J.bounds self.old.seats.resolves.seat
+            self.old.seats.resolves.events 1 at self.new.seats.resolves.events) }
+        ensures begins { self.new.seats.begins ≡ self.old.seats.begins }
+        ensures terms { (self.new.terms ≡ self.old.terms) × (self.new.again ≡ self.old.again) }
+    {
+        let Some(
+            Seats {
+                begins,
+                mut resolves,
+            },
+        ) = self.seats.take()
+        else {
+            unreachable!()
+        };
+        let drawn = self.live.draw(self.number, &mut resolves);
+        self.seats = Some(Seats { begins, resolves });
+        drawn
+    }
+
+    /// The value of a key at a timestamp.
+    pub(crate) fn get_at(&mut self, at: Ts, key: &Key) -> Result<Option<Value>, Stop>
+        ensures finds { IfOk result
+            (λ found. Sees (table_of (shadow self.new.seats.resolves.events)).row key.now at found) }
+        ensures begins { self.new.seats.begins ≡ self.old.seats.begins }
+        ensures resolves { OnlySees self.old.seats.resolves self.new.seats.resolves }
+        ensures terms { (self.new.terms ≡ self.old.terms) × (self.new.again ≡ self.old.again) }
+    {
+        let Some(Seats { begins, resolves }) = self.seats.take() else {
+            unreachable!()
+        };
+        let mut wire = Wire::new(self.rt, self.store);
+        let mut reader = Reader::new(self.alloc, resolves, at);
+        let answered = reader.get(key, &mut wire);
+        let resolves = reader.into_seat();
+        self.seats = Some(Seats { begins, resolves });
+        found_in(answered)
+    }
+
+    /// The rows of a range at a timestamp.
+    pub(crate) fn rows_at(&mut self, at: Ts, range: &KeyRange) -> Result<KeyValues, Stop>
+        ensures finds { IfOk result
+            (λ rows. SeesRange self.new.seats.resolves.events at (Some range.now.from) range.now.to rows) }
+        ensures begins { self.new.seats.begins ≡ self.old.seats.begins }
+        ensures resolves { OnlySees self.old.seats.resolves self.new.seats.resolves }
+        ensures terms { (self.new.terms ≡ self.old.terms) × (self.new.again ≡ self.old.again) }
+    {
+        let Some(Seats { begins, resolves }) = self.seats.take() else {
+            unreachable!()
+        };
+        let mut wire = Wire::new(self.rt, self.store);
+        let mut reader = Reader::new(self.alloc, resolves, at);
+        let rows = rows_of(self.alloc, &mut reader, range, &mut wire);
+        let resolves = reader.into_seat();
+        self.seats = Some(Seats { begins, resolves });
+        rows
+    }
+}

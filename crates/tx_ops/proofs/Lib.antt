@@ -1,0 +1,10 @@
+-- Over a way that loses nothing no call is told that a reply was lost.
+pub mod Answered
+-- What a call sends is its walk.
+pub mod Calling
+-- What an edit says, and what becomes of a session.
+pub mod Editing
+-- What a call may come to.
+pub mod Ending
+-- Which replies an edit says.
+pub mod Saying

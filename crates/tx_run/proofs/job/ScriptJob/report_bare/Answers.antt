@@ -1,7 +1,0 @@
-use Rattle.tx_run.proofs.Evidence.{bare_tells}
-use Rattle.tx_run.proofs.job.ScriptJob.report_bare.Goals as goal
-
-pub report-requires-clause-tells : goal.report-requires-clause-tells
-report-requires-clause-tells g c =
-    bare_tells g.L.Source.text g.J.JournalId.bounds c.args.self.now.log.told c.args.number c.args.plain c.requires.says
-    c.requires.bare

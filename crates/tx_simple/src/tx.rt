@@ -1,0 +1,282 @@
+//! What an update reads and writes within its transaction.
+ghost use Rattle.std.specs.Prelude.{◌≡◌, ℕ, false, Option, Ok, IfOk, IfSome};
+ghost use Rattle.tx_types.specs.declared.key.Key.{Key};
+ghost use Rattle.tx_types.specs.declared.mutation.Mutation.{Mutation};
+ghost use Rattle.tx_plan.specs.declared.answer.Answer.TheVariants.{Rows};
+ghost use Rattle.tx_types.specs.Keys.{is_scanned};
+ghost use Rattle.tx_core.specs.Histories.{History, Begins};
+ghost use Rattle.tx_transaction.specs.Buffers.{buffered};
+ghost use Rattle.tx_transaction.specs.Sessions.{is_declared};
+ghost use Rattle.tx_laws.specs.Rows.{AreRowsOf};
+ghost use Rattle.tx_simple.specs.Reads.{Finds, FindsRows, AnswersRead, AnswersScan, SeesOn, TellsPage};
+
+use crate::rows::{KeyRange, enter_over};
+use crate::session::{Begun, Running};
+use crate::stops::{Stop, stop_by};
+use std::alloc::Global;
+use tx_client::{Miss, Status, WaitCause};
+use tx_core::Answer;
+use tx_journal::{JournalId, Reply, Request, Sender};
+use tx_types::limits::MAX_SCAN_ROWS;
+use tx_types::{Key, KeyValues, Ts, Value};
+
+/// A transaction that declares nothing yet, as it is lent to an update: it reads at its start, and
+/// enters changes into its buffer, which nobody else sees. A lock in the way of a read is resolved,
+/// and the read is made again.
+///
+/// ```
+/// let before = count(&tx.range(None, None)?);
+/// tx.delete(key_of(tx, 3)?)?;
+/// tx.lock(key_of(tx, 7)?)?;
+/// put(tx, 1_500)?;
+/// let after = count(&tx.range(None, None)?);
+/// ```
+pub trait Tx {
+    ghost use Rattle.std.specs.Prelude.{◌≡◌, ◌⊎◌, ℕ, OnOk, OnErr, IfOk, IfErr, Some, None};
+    ghost use Rattle.tx_types.specs.declared.mutation.Mutation.TheVariants as mutation;
+    ghost use Rattle.tx_core.specs.Histories.{History};
+    ghost use Rattle.tx_transaction.specs.Buffers.{Entries, touched, put_over, inserted, locked, buffered, is_full};
+    ghost use Rattle.tx_simple.specs.declared.stops.Stop.TheVariants as stop;
+    ghost use Rattle.tx_simple.specs.Reads.{Finds, FindsRows, FindsRange};
+    ghost use Rattle.tx_simple.specs.Stops.{IsEntryStop};
+
+    /// What is entered so far.
+    ghost buffer: { Self → Entries };
+
+    /// Its start timestamp, which stays.
+    ghost begins: { Self → ℕ };
+
+    /// What its seat has seen of the history.
+    ghost seen: { Self → History };
+
+    /// Where it takes memory.
+    fn alloc(&self) -> Global;
+
+    /// Its start timestamp.
+    fn start(&self) -> Ts
+        ensures { result ≡ begins self.now };
+
+    /// The value of a key at the start, or what was entered of it: what the one-step machine sees.
+    /// `Waits` where a lock stands in the way whose transaction lives or cannot be asked,
+    /// `BelowSafePoint` where the start lies below the safe point, `Lost` where no reply came,
+    /// `Refused` for want of memory.
+    fn get(&mut self, key: &Key) -> Result<Option<Value>, Stop>
+        ensures same { (buffer self.new ≡ buffer self.old) × (begins self.new ≡ begins self.old) }
+        ensures finds { IfOk result
+            (λ found. Finds (buffered (buffer self.old) key.now) (seen self.new) (begins self.old) key.now found) };
+
+    /// The first `limit` keys with a value at the start, from `from` up to but not including `to`;
+    /// what was entered is not looked at. It stops as `get` does.
+    fn scan(&mut self, from: &Key, to: &Key, limit: u32) -> Result<KeyValues, Stop>
+        ensures same { (buffer self.new ≡ buffer self.old) × (begins self.new ≡ begins self.old) }
+        ensures finds { IfOk result (λ rows. FindsRows (seen self.new) (begins self.old) from.now to.now limit rows) };
+
+    /// The rows of a range, of any number, from a key, or from the least, and up to but not
+    /// including another, or to the greatest: each as `get` finds it, so that what was entered
+    /// lies over what is seen at the start. It asks page by page, and stops as `get` does.
+    fn range(&mut self, from: Option<Key>, to: Option<Key>) -> Result<KeyValues, Stop>
+        ensures same { (buffer self.new ≡ buffer self.old) × (begins self.new ≡ begins self.old) }
+        ensures finds { IfOk result
+            (λ rows. FindsRange (buffer self.old) (seen self.new) (begins self.old) from to rows) };
+
+    /// Enters a put. `Refused` for more than 1,024 keys, or for want of memory: nothing is entered
+    /// then.
+    fn put(&mut self, key: Key, value: Value) -> Result<(), Stop>
+        ensures ok { OnOk result (buffer self.new
+            ≡ touched (buffer self.old) key (put_over (buffered (buffer self.old) key) value)) }
+        ensures same { OnErr result (buffer self.new ≡ buffer self.old) }
+        ensures err { IfErr result (IsEntryStop (is_full (buffer self.old) key)) }
+        ensures start { begins self.new ≡ begins self.old };
+
+    /// Enters an insert: a put of a key that is to have no value. `AlreadyExists` where a put or an
+    /// insert of it was entered; where the key has a value at the start, the transaction stops by
+    /// that as it commits. `Refused` as for a put.
+    fn insert(&mut self, key: Key, value: Value) -> Result<(), Stop>
+        ensures ok { OnOk result (inserted (buffer self.old) key value ≡ Some (buffer self.new)) }
+        ensures same { OnErr result (buffer self.new ≡ buffer self.old) }
+        ensures err { IfErr result (λ s. IsEntryStop (is_full (buffer self.old) key) s
+            ⊎ ((s ≡ stop.AlreadyExists) × (inserted (buffer self.old) key value ≡ None))) }
+        ensures start { begins self.new ≡ begins self.old };
+
+    /// Enters a delete. `Refused` as for a put.
+    fn delete(&mut self, key: Key) -> Result<(), Stop>
+        ensures ok { OnOk result (buffer self.new ≡ touched (buffer self.old) key mutation.Delete) }
+        ensures same { OnErr result (buffer self.new ≡ buffer self.old) }
+        ensures err { IfErr result (IsEntryStop (is_full (buffer self.old) key)) }
+        ensures start { begins self.new ≡ begins self.old };
+
+    /// Enters a lock, where the key is not entered: it is not to change before the transaction
+    /// commits. `Refused` as for a put.
+    fn lock(&mut self, key: Key) -> Result<(), Stop>
+        ensures ok { OnOk result (buffer self.new ≡ locked (buffer self.old) key) }
+        ensures same { OnErr result (buffer self.new ≡ buffer self.old) }
+        ensures err { IfErr result (IsEntryStop (is_full (buffer self.old) key)) }
+        ensures start { begins self.new ≡ begins self.old };
+}
+
+/// A running session that declares nothing yet.
+#[derive(Drop)]
+pub(crate) struct Lent<'a, J: JournalId, S: Sender<Request<J>, Reply<J>>, B: Begun> {
+    pub(crate) running: Running<'a, J, S, B>,
+    ghost open: { is_declared B.session.state ≡ false },
+}
+
+// The value that a read of a key found.
+fn value_in(answer: Answer) -> Result<Option<Value>, Stop>
+    ensures { IfOk result (λ found. (entered : Option Mutation) (h : History) (start : ℕ) (key : Key)
+        → AnswersRead entered h start key answer → Finds entered h start key found) }
+{
+    match answer {
+        Answer::Found(value) => Ok(Some(value)),
+        Answer::Nothing => Ok(None),
+        refusal => Err(stop_by(refusal)),
+    }
+}
+
+// The rows that a scan found.
+fn rows_in(answer: Answer) -> Result<KeyValues, Stop>
+    ensures { IfOk result (λ rows. answer ≡ Rows rows) }
+{
+    match answer {
+        Answer::Rows(rows) => Ok(rows),
+        refusal => Err(stop_by(refusal)),
+    }
+}
+
+impl<'a, J: JournalId, S: Sender<Request<J>, Reply<J>>, B: Begun> Lent<'a, J, S, B> {
+    /// Lends what sets out here.
+    pub(crate) fn new(running: Running<'a, J, S, B>) -> Lent<'a, J, S, B>
+        requires { is_declared B.session.state ≡ false }
+        ensures { result.running ≡ running.entry }
+    {
+        Lent { running }
+    }
+
+    /// What runs.
+    pub(crate) fn into_running(self) -> Running<'a, J, S, B>
+        ensures { result ≡ self.entry.running }
+    {
+        let Lent { running } = self;
+        running
+    }
+
+    // What a read answered; none where a lock was in its way that it may pass by now.
+    fn passed(&mut self, response: Result<Answer, Miss>) -> Result<Option<Answer>, Stop>
+        ensures same { self.new.running.state.buffer ≡ self.old.running.state.buffer }
+        ensures more { Begins self.old.running.seat.events self.new.running.seat.events }
+        ensures answers { IfOk result
+            (λ found. IfSome found (λ a. (response ≡ Ok a) × (self.new.running ≡ self.old.running))) }
+    {
+        match response? {
+            Answer::KeyIsLocked(_) => match self.running.clear()? {
+                Status::Waiting(why) => Err(Stop::Waits(why)),
+                _ => Ok(None),
+            },
+            answer => Ok(Some(answer)),
+        }
+    }
+
+    // Reads a key, once.
+    fn look(&mut self, key: &Key) -> Result<Option<Answer>, Stop>
+        ensures same { self.new.running.state.buffer ≡ self.old.running.state.buffer }
+        ensures more { Begins self.old.running.seat.events self.new.running.seat.events }
+        ensures reads { IfOk result (λ found. IfSome found (AnswersRead (buffered self.old.running.state.buffer key.now)
+            self.new.running.seat.events B.session.state.start key.now)) }
+    {
+        let response = self.running.get(key);
+        self.passed(response)
+    }
+
+    // Reads a range, once.
+    fn look_over(&mut self, from: &Key, to: &Key, limit: u32) -> Result<Option<Answer>, Stop>
+        ensures same { self.new.running.state.buffer ≡ self.old.running.state.buffer }
+        ensures more { Begins self.old.running.seat.events self.new.running.seat.events }
+        ensures reads { IfOk result (λ found. IfSome found
+            (AnswersScan self.new.running.seat.events B.session.state.start from.now to.now limit)) }
+        ensures tells { IfOk result (λ found. IfSome found
+            (TellsPage J.bounds self.new.running.seat.events B.session.state.start from.now to.now limit)) }
+    {
+        let response = self.running.scan(from, to, limit);
+        self.passed(response)
+    }
+
+    /// The value of a key at the start, or what was entered of it. Locks in its way are resolved.
+    pub(crate) fn find(&mut self, key: &Key) -> Result<Option<Value>, Stop>
+        ensures same { self.new.running.state.buffer ≡ self.old.running.state.buffer }
+        ensures more { Begins self.old.running.seat.events self.new.running.seat.events }
+        ensures finds { IfOk result (λ found. Finds (buffered self.old.running.state.buffer key.now)
+            self.new.running.seat.events B.session.state.start key.now found) }
+    {
+        for _ in 0..MAX_SCAN_ROWS {
+            if let Some(answer) = self.look(key)? {
+                return value_in(answer);
+            }
+        }
+        Err(Stop::Waits(WaitCause::Live))
+    }
+
+    /// The first rows of a range at the start. Locks in its way are resolved.
+    pub(crate) fn page(&mut self, from: &Key, to: &Key, limit: u32) -> Result<KeyValues, Stop>
+        ensures same { self.new.running.state.buffer ≡ self.old.running.state.buffer }
+        ensures more { Begins self.old.running.seat.events self.new.running.seat.events }
+        ensures finds { IfOk result
+            (λ rows. FindsRows self.new.running.seat.events B.session.state.start from.now to.now limit rows) }
+        ensures tells { IfOk result (λ rows. AreRowsOf (is_scanned from.now to.now limit rows)
+            (SeesOn J.bounds self.new.running.seat.events B.session.state.start) rows) }
+    {
+        for _ in 0..MAX_SCAN_ROWS {
+            if let Some(answer) = self.look_over(from, to, limit)? {
+                return rows_in(answer);
+            }
+        }
+        Err(Stop::Waits(WaitCause::Live))
+    }
+}
+
+impl<'a, J: JournalId, S: Sender<Request<J>, Reply<J>>, B: Begun> Tx for Lent<'a, J, S, B> {
+    ghost buffer = { λ t. t.running.state.buffer };
+
+    ghost begins = { λ t. B.session.state.start };
+
+    ghost seen = { λ t. t.running.seat.events };
+
+    fn alloc(&self) -> Global {
+        self.running.alloc()
+    }
+
+    fn start(&self) -> Ts {
+        self.running.start()
+    }
+
+    fn get(&mut self, key: &Key) -> Result<Option<Value>, Stop> {
+        self.find(key)
+    }
+
+    fn scan(&mut self, from: &Key, to: &Key, limit: u32) -> Result<KeyValues, Stop> {
+        self.page(from, to, limit)
+    }
+
+    fn range(&mut self, from: Option<Key>, to: Option<Key>) -> Result<KeyValues, Stop> {
+        let range = KeyRange::new(self.running.alloc(), from, to)?;
+        let mut rows = self.rows_in(&range)?;
+        let changes = self.running.entered()?;
+        enter_over(&mut rows, changes.as_slice(), &range)?;
+        Ok(KeyValues::from_vec(rows))
+    }
+
+    fn put(&mut self, key: Key, value: Value) -> Result<(), Stop> {
+        Ok(self.running.put(key, value)?)
+    }
+
+    fn insert(&mut self, key: Key, value: Value) -> Result<(), Stop> {
+        Ok(self.running.insert(key, value)?)
+    }
+
+    fn delete(&mut self, key: Key) -> Result<(), Stop> {
+        Ok(self.running.delete(key)?)
+    }
+
+    fn lock(&mut self, key: Key) -> Result<(), Stop> {
+        Ok(self.running.lock(key)?)
+    }
+}

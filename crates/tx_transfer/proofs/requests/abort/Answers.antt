@@ -1,0 +1,10 @@
+use Rattle.tx_transaction.specs.declared.state.Phase.TheVariants as phase
+use Rattle.tx_transaction.specs.Sessions.{due_abort}
+use Rattle.tx_client.proofs.Keeping.{keeps_due}
+use Rattle.tx_transfer.proofs.requests.abort.Goals as goal
+
+pub returns : goal.returns
+returns g c =
+    let s = c.args.session.now.state in
+    keeps_due g.S.Sender.sends g.J.JournalId.bounds c.args.session.now.seat c.abort_next.new.self.seat c.args.sender.now
+    c.abort_next.new.sender s phase.Abort (due_abort s) (c.abort_next.new.self.state, c.abort_next.result) c.abort_next.ensures

@@ -1,0 +1,7 @@
+use Rattle.tx_client.proofs.Keeping.{keeps_get}
+use Rattle.tx_transfer.proofs.requests.get.Goals as goal
+
+pub returns : goal.returns
+returns g c = keeps_get g.S.Sender.sends g.J.JournalId.bounds c.args.session.now.seat c.get.new.self.seat
+    c.args.sender.now c.get.new.sender c.args.session.now.state c.args.key.now (c.get.new.self.state, c.get.result)
+    c.get.ensures
