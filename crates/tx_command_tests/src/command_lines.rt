@@ -294,7 +294,8 @@ Options:
       --cells <KIND>          How the regions keep what they hold; the replies are the same [default: flat] [possible values: flat, nested]
   -h, --help                  Print help
 
-The script is read whole. Its seeds run in the order of their lines, and then the lines of each session in theirs,
+The script is read whole. Its seeds run in the order of their lines, and then the lines of each session in
+theirs, the sessions side by side. s names a session; mode is \"two-phase\" or \"async\":
 ";
 
 const CHECK: &str =
