@@ -117,19 +117,19 @@ const BOTH_ORDERS: Orders = Orders {
 // Plays a script over these families. How it ended, unless it broke off.
 fn plays<F: Fresh>(alloc: Global, text: &[u8], written: &mut Vec<u8>) -> Option<End> {
     let mut reader = text;
-    simulate::<F, _, _, _>(alloc, &Plain, &mut reader, written).ok()
+    simulate::<F, _, _, _>(alloc, &Plain, &mut reader, written, &mut None).ok()
 }
 
 // The same with its check.
 fn checks<F: Fresh>(alloc: Global, text: &[u8], written: &mut Vec<u8>) -> Option<End> {
     let mut reader = text;
-    simulate_checked::<F, _, _, _>(alloc, &Plain, &mut reader, written).ok()
+    simulate_checked::<F, _, _, _>(alloc, &Plain, &mut reader, written, &mut None).ok()
 }
 
 // The same with the number of its line beside each step.
 fn numbers<F: Fresh>(alloc: Global, text: &[u8], written: &mut Vec<u8>) -> Option<End> {
     let mut reader = text;
-    simulate_numbered::<F, _, _, _>(alloc, &Plain, &mut reader, written).ok()
+    simulate_numbered::<F, _, _, _>(alloc, &Plain, &mut reader, written, &mut None).ok()
 }
 
 /// A verdict by its line, with no order, and nothing more.

@@ -1,5 +1,5 @@
 -- What an answer to a session's request tells, its state may keep.
-use Rattle.std.proofs.Common.{◌≡◌, ℕ, inl, inr, zero, suc, List, [], ◌∷◌, Option, Some, None, refl, sym, ap, subst, ◌∙◌}
+use Rattle.std.proofs.Common.{◌≡◌, ℕ, inl, inr, zero, suc, List, [], ◌∷◌, Option, Some, None, Ok, refl, sym, ap, subst, ◌∙◌}
 use Rattle.tx_types.specs.declared.key.Key.{Key}
 use Rattle.tx_types.specs.declared.lock.LockInfo.{LockInfo}
 use Rattle.tx_types.specs.declared.mutation.Fate.{Fate}
@@ -9,7 +9,6 @@ use Rattle.tx_plan.specs.declared.body.Body.{Body}
 use Rattle.tx_plan.specs.declared.answer.Answer.{Answer}
 use Rattle.tx_plan.specs.declared.answer.Answer.TheVariants.{Prewritten, Committed, RolledBack, Missing, Locked, KeyIsLocked, CommitTsExpired}
 use Rattle.tx_plan.specs.Answers.{start_in}
-use Rattle.tx_core.specs.declared.event.UnknownCause.{UnknownCause}
 use Rattle.tx_core.specs.Histories.{History, declared}
 use Rattle.tx_core.specs.Decisions.{fate_in}
 use Rattle.tx_core.specs.Worlds.{WasTold, MayAnswer, IsWorldRun}
@@ -17,12 +16,11 @@ use Rattle.tx_transaction.specs.declared.state.Terms.{Terms}
 use Rattle.tx_transaction.specs.declared.state.Phase.{Phase}
 use Rattle.tx_transaction.specs.declared.state.Phase.TheVariants as phase
 use Rattle.tx_transaction.specs.declared.state.Progress.{Progress}
-use Rattle.tx_transaction.specs.declared.state.Response.{Response}
-use Rattle.tx_transaction.specs.declared.state.Response.TheVariants as response
+use Rattle.tx_transaction.specs.declared.state.Miss.{Miss}
 use Rattle.tx_transaction.specs.declared.state.Due.{Due}
 use Rattle.tx_transaction.specs.Buffers.{Entries, changes_of, key_at, progress_at, with_progress, promised}
-use Rattle.tx_transaction.specs.Sessions.{SessionState, first_settled, committed_by, met_by, drawn_after, sent_by, marked_by, marked, missed, after_answer, after_response, after_read, outcome_of}
-use Rattle.tx_client.specs.Facts.{WasAnswered, WasMet, RespondsSo, standing, Mark, Marks, IsSession, IsFor}
+use Rattle.tx_transaction.specs.Sessions.{SessionState, first_settled, committed_by, met_by, drawn_after, sent_by, marked_by, marked, missed, after_answer, after_read, outcome_of}
+use Rattle.tx_client.specs.Facts.{WasAnswered, WasMet, standing, Mark, Marks, IsSession, IsFor}
 use Rattle.tx_transaction.proofs.Entries.{changes_with, declaration_with}
 use Rattle.tx_client.proofs.Due.{names_start}
 use Rattle.tx_client.proofs.Marking.{prewritten_mark, checked_mark, rolled_unlocked}
@@ -129,7 +127,7 @@ module _ (bounds : List Key) (h : History) (run : IsWorldRun bounds h) (i : ℕ)
       }
 
   -- it was not answered
-  pub missed_ok : (x : Phase) (n : ℕ) (why : UnknownCause) → IsSession h i (missed s x n why)
+  pub missed_ok : (x : Phase) (n : ℕ) (why : Miss) → IsSession h i (missed s x n why)
   missed_ok x n why =
       let p : Progress = progress_at s.buffer n in
       record {
@@ -145,17 +143,9 @@ module _ (bounds : List Key) (h : History) (run : IsWorldRun bounds h) (i : ℕ)
         settled = is.settled;
       }
 
-  -- whatever came of a request of a phase
-  pub came_ok : (x : Phase) (due : Due) → IsFor s x due → (c : Response) → RespondsSo h due.body c → IsSession h i (after_response s x due.index c)
-  came_ok x due f response.Lost was = missed_ok x due.index _
-  came_ok x due f response.OutOfMemory was = missed_ok x due.index _
-  came_ok x due f (response.Answered a) was = heard_ok x due f a was
-
   -- a read was answered
-  pub read_ok : (b : Body) (c : Response) → RespondsSo h b c → IsSession h i (after_read s c)
-  read_ok b response.Lost was = is
-  read_ok b response.OutOfMemory was = is
-  read_ok b (response.Answered a) was =
+  pub read_ok : (b : Body) (a : Answer) → WasAnswered h b a → IsSession h i (after_read s (Ok a))
+  read_ok b a was =
       record {
         drew_start = is.drew_start;
         begun = is.begun;

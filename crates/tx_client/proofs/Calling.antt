@@ -27,7 +27,7 @@ use Rattle.tx_core.proofs.seats.Staying.{among_on}
 use Rattle.tx_journal.specs.Known.{Known, HasSeen, HasDrawn, HasRecorded}
 use Rattle.tx_journal.specs.Replies.{Asked, Given, IsTold, IsGiven}
 use Rattle.tx_transaction.specs.declared.state.Terms.{Terms}
-use Rattle.tx_transaction.specs.declared.state.Response.{Response}
+use Rattle.tx_transaction.specs.Returns.{Response}
 use Rattle.tx_transaction.specs.declared.state.Phase.{Phase}
 use Rattle.tx_transaction.specs.declared.state.Phase.TheVariants as phase
 use Rattle.tx_transaction.specs.declared.state.Due.{Due}

@@ -7,7 +7,6 @@ use Rattle.tx_types.specs.declared.mutation.Mode.{Mode}
 use Rattle.tx_types.specs.declared.mutation.Mode.TheVariants.{TwoPhase, Async}
 use Rattle.tx_machine.specs.Machine.{Done}
 use Rattle.tx_plan.specs.Answers.{start_in}
-use Rattle.tx_core.specs.declared.event.Outcome.TheVariants as outcome
 use Rattle.tx_core.specs.Histories.{History, declared, set_of, is_first}
 use Rattle.tx_core.specs.Decisions.{decided}
 use Rattle.tx_core.specs.Allowed.{Allowed}

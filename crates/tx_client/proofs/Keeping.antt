@@ -1,5 +1,5 @@
 -- The calls of a session that send leave what it writes as it is.
-use Rattle.std.proofs.Common.{◌≡◌, inl, inr, ℕ, zero, suc, Bool, true, false, List, [], ◌∷◌, Option, Some, None, Result, refl, sym, ap, subst}
+use Rattle.std.proofs.Common.{◌≡◌, inl, inr, ℕ, zero, suc, Bool, true, false, List, [], ◌∷◌, Option, Some, None, Result, Ok, Err, refl, sym, ap, subst}
 use Rattle.tx_types.specs.declared.key.Key.{Key}
 use Rattle.tx_types.specs.declared.mutation.Mutation.{Mutation}
 use Rattle.tx_types.specs.declared.mutation.Mutation.TheVariants as mutation
@@ -7,8 +7,7 @@ use Rattle.tx_plan.specs.declared.answer.Answer.{Answer}
 use Rattle.tx_plan.specs.declared.body.Body.{Body}
 use Rattle.tx_journal.specs.Known.{Known}
 use Rattle.tx_journal.specs.Replies.{Asked}
-use Rattle.tx_transaction.specs.declared.state.Response.{Response}
-use Rattle.tx_transaction.specs.declared.state.Response.TheVariants.{Lost, OutOfMemory, Answered}
+use Rattle.tx_transaction.specs.Returns.{Response}
 use Rattle.tx_transaction.specs.declared.state.Miss.{Miss}
 use Rattle.tx_transaction.specs.declared.state.Phase.{Phase}
 use Rattle.tx_transaction.specs.declared.state.Progress.{Progress}
@@ -33,14 +32,12 @@ keys_with (e ∷ es) zero p = refl
 keys_with (e ∷ es) (suc i) p = ap (λ (l : List Key). e.0 ∷ l) (keys_with es i p)
 
 keeps_response : (s : SessionState) (x : Phase) (i : ℕ) (c : Response) → KeepsSet s (after_response s x i c)
-keeps_response s x i Lost = record { keys = keys_with s.buffer i _; declared = refl }
-keeps_response s x i OutOfMemory = record { keys = keys_with s.buffer i _; declared = refl }
-keeps_response s x i (Answered a) = record { keys = keys_with s.buffer i _; declared = refl }
+keeps_response s x i (Err why) = record { keys = keys_with s.buffer i _; declared = refl }
+keeps_response s x i (Ok a) = record { keys = keys_with s.buffer i _; declared = refl }
 
 keeps_read : (s : SessionState) (c : Response) → KeepsSet s (after_read s c)
-keeps_read s Lost = keeps_itself s
-keeps_read s OutOfMemory = keeps_itself s
-keeps_read s (Answered a) = record { keys = refl; declared = refl }
+keeps_read s (Err why) = keeps_itself s
+keeps_read s (Ok a) = record { keys = refl; declared = refl }
 
 pub keeps_passed : (s : SessionState) (t : ℕ) (may : Bool) → KeepsSet s (with_passed s t may)
 keeps_passed s t false = keeps_itself s

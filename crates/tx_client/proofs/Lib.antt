@@ -26,5 +26,5 @@ pub mod Scanning
 pub mod Keeping
 -- A session's commit lies above those that its seat knew to be answered when it declared.
 pub mod Ordered
--- The lock that comes with an answer is the one that is met, and was told of.
+-- A lock that was met was told of.
 pub mod Locks

@@ -1,27 +1,23 @@
 -- What a send comes to is what its walk says.
-use Rattle.std.proofs.Common.{◌≡◌, inl, inr, List, Result, refl, ap, subst, ◌∙◌}
+use Rattle.std.proofs.Common.{◌≡◌, inl, inr, List, refl, ap, subst, ◌∙◌}
 use Rattle.tx_types.specs.declared.key.Key.{Key}
 use Rattle.tx_plan.specs.declared.body.Body.{Body}
-use Rattle.tx_plan.specs.declared.answer.Answer.{Answer}
 use Rattle.tx_journal.specs.Known.{Known}
 use Rattle.tx_journal.specs.Replies.{Asked}
-use Rattle.tx_transaction.specs.declared.state.Response.{Response}
-use Rattle.tx_transaction.specs.declared.state.Miss.{Miss}
 use Rattle.tx_transaction.specs.Sessions.{SessionState, after_read}
 use Rattle.tx_journal.specs.Senders.{Reached}
 use Rattle.tx_client.specs.Learns.{response_of}
 use Rattle.tx_client.specs.Walks.{Walk, asks, grows, ends, then_walk, Sends, look_walk}
-use Rattle.tx_transaction.specs.Returns.{read}
+use Rattle.tx_transaction.specs.Returns.{Response}
 use Rattle.tx_client.specs.Calls.{Asks}
 
 module _ {S : Type 0} (sends : S → Asked → Reached → S → Type 0) (bounds : List Key) where
   pub looked : (k new : Known) (from to : S) (s after : SessionState) (body : Body) (c : Response)
-      (r : Result Answer Miss) → Asks sends bounds k body from to c new → r ≡ read c → after ≡ after_read s c
-      → Sends sends bounds k from (look_walk s body) (after, r) to new
-  looked k new from to s after body c r a is e =
+      → Asks sends bounds k body from to c new → after ≡ after_read s c
+      → Sends sends bounds k from (look_walk s body) (after, c) to new
+  looked k new from to s after body c a e =
       let state : after ≡ after_read s (response_of a.reached) = e ∙ ap (after_read s) a.is in
-      let given : r ≡ read (response_of a.reached) = is ∙ ap read a.is in
-      (a.reached, to, new, a.sent, a.learns, ((λ j. (state j, given j)), refl, refl))
+      (a.reached, to, new, a.sent, a.learns, ((λ j. (state j, a.is j)), refl, refl))
 
   -- one walk after another
   pub sent_then : {A B : Type 0} (w : Walk A) (next : A → Walk B) (k mid new : Known) (from at to : S) (r : A) (q : B)

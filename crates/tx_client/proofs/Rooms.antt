@@ -1,5 +1,5 @@
 -- A region answers a scan with at most as many rows as it asks for.
-use Rattle.std.proofs.Common.{◌≡◌, ◌≤◌, ℕ, inl, inr, List, length, Ok, refl, sym, subst}
+use Rattle.std.proofs.Common.{◌≡◌, ◌≤◌, ℕ, inl, inr, List, length, Ok, subst}
 use Rattle.tx_types.specs.declared.key.Key.{Key}
 use Rattle.tx_types.specs.declared.mutation.KeyValue.{KeyValue}
 use Rattle.tx_plan.specs.declared.body.Body.{Body}
@@ -11,10 +11,7 @@ use Rattle.tx_plan.specs.Cells.{Region}
 use Rattle.tx_plan.specs.Answers.{Answers}
 use Rattle.tx_core.specs.Histories.{History, last, left}
 use Rattle.tx_core.specs.Worlds.{IsWorldRun}
-use Rattle.tx_transaction.specs.declared.state.Response.{Response}
-use Rattle.tx_transaction.specs.declared.state.Response.TheVariants as response
-use Rattle.tx_transaction.specs.Returns.{read}
-use Rattle.tx_client.specs.Facts.{WasAnswered, RespondsSo}
+use Rattle.tx_client.specs.Facts.{WasAnswered}
 use Rattle.tx_client.specs.Rooms.{IsScan, HasUpto}
 use Rattle.tx_client.proofs.Marking.{taken_there}
 
@@ -37,13 +34,8 @@ module _ (bounds : List Key) (h : History) (run : IsWorldRun bounds h) where
       took.1.1.answers in
       gives_upto (left took.0 was.by.region) was.by.loaded (last took.0) b was.by.answer found gave was.told
 
-  told_upto : (n : ℕ) (body : Body) → IsScan n body → (a : Answer) → WasAnswered h body a → HasUpto n (Ok a)
+  -- what answers a scan
+  pub told_upto : (n : ℕ) (body : Body) → IsScan n body → (a : Answer) → WasAnswered h body a → HasUpto n (Ok a)
   told_upto n (request.Scan b) is (Rows found) was = subst (λ m. length found ≤ m) is (scanned_upto b found was)
   told_upto n (request.Scan b) is _ was = tt
   told_upto n _ is a was = absurd is
-
-  -- what came of a scan
-  pub came_upto : (n : ℕ) (body : Body) → IsScan n body → (c : Response) → RespondsSo h body c → HasUpto n (read c)
-  came_upto n body is response.Lost was = tt
-  came_upto n body is response.OutOfMemory was = tt
-  came_upto n body is (response.Answered a) was = told_upto n body is a was

@@ -14,7 +14,7 @@ use Rattle.tx_core.specs.Histories.{History, Begins}
 use Rattle.tx_core.specs.Recording.{part}
 use Rattle.tx_journal.specs.Known.{Known, HasSeen, HasRecorded, HasDrawn}
 use Rattle.tx_journal.specs.Replies.{Asked}
-use Rattle.tx_transaction.specs.declared.state.Response.{Response}
+use Rattle.tx_transaction.specs.Returns.{Response}
 use Rattle.tx_transaction.specs.Buffers.{keys_of}
 use Rattle.tx_transaction.specs.Sessions.{SessionState}
 use Rattle.tx_journal.specs.Senders.{Reached}

@@ -1,5 +1,5 @@
 -- What holds of a session's state in what its seat has seen.
-use Rattle.std.specs.Prelude.{◌≡◌, ◌≢◌, ◌⊎◌, ℕ, zero, suc, true, false, List, [], ◌∷◌, Option, Some, None}
+use Rattle.std.specs.Prelude.{◌≡◌, ◌≢◌, ◌⊎◌, ℕ, zero, suc, true, false, List, [], ◌∷◌, Option, Some, None, Ok, Err}
 use Rattle.tx_types.specs.declared.key.Key.{Key}
 use Rattle.tx_types.specs.declared.lock.LockInfo.{LockInfo}
 use Rattle.tx_types.specs.declared.mutation.Fate.{Fate}
@@ -17,8 +17,7 @@ use Rattle.tx_core.specs.Worlds.{MayAnswer, IsWorldRun}
 use Rattle.tx_core.specs.Laws.{HadAsyncLock}
 use Rattle.tx_journal.specs.Known.{Known}
 use Rattle.tx_transaction.specs.declared.state.Terms.{Terms}
-use Rattle.tx_transaction.specs.declared.state.Response.{Response}
-use Rattle.tx_transaction.specs.declared.state.Response.TheVariants as response
+use Rattle.tx_transaction.specs.Returns.{Response}
 use Rattle.tx_transaction.specs.declared.state.Phase.{Phase}
 use Rattle.tx_transaction.specs.declared.state.Phase.TheVariants as phase
 use Rattle.tx_transaction.specs.declared.state.Due.{Due}
@@ -38,9 +37,8 @@ WasMet h info = (b : Body) × WasAnswered h b (KeyIsLocked info)
 
 -- what came of a request: an answer was given
 abbrev pub RespondsSo : History → Body → Response → Type 0
-RespondsSo h b response.Lost = Unit {0}
-RespondsSo h b response.OutOfMemory = Unit {0}
-RespondsSo h b (response.Answered a) = WasAnswered h b a
+RespondsSo h b (Err why) = Unit {0}
+RespondsSo h b (Ok a) = WasAnswered h b a
 
 -- what stands declared: nothing before declare, and nothing of an empty buffer
 abbrev pub standing : ℕ → ℕ → Entries → Option Terms → Option Declaration

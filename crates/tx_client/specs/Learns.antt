@@ -6,16 +6,16 @@ use Rattle.tx_core.specs.Histories.{Begins}
 use Rattle.tx_journal.specs.Known.{Known, HasSeen}
 use Rattle.tx_journal.specs.Replies.{IsGiven}
 use Rattle.tx_journal.specs.Senders.{Reached}
-use Rattle.tx_transaction.specs.declared.state.Response.{Response}
-use Rattle.tx_transaction.specs.declared.state.Response.TheVariants as response
+use Rattle.tx_transaction.specs.Returns.{Response}
+use Rattle.tx_transaction.specs.declared.state.Miss.TheVariants as miss
 
 -- what it comes to for the sender
 abbrev pub response_by : Option Answer → Response
-response_by None = response.OutOfMemory
-response_by (Some a) = response.Answered a
+response_by None = (Err miss.Fault)
+response_by (Some a) = Ok a
 
 abbrev pub response_of : Reached → Response
-response_of (Err l) = response.Lost
+response_of (Err l) = (Err miss.Lost)
 response_of (Ok g) = response_by g.answer
 
 -- a seat learns what a reply tells, which is one that a region gave, and nothing where none came;

@@ -11,7 +11,6 @@ use Rattle.tx_types.specs.Keys.{key_lt}
 use Rattle.tx_journal.specs.Known.{Known}
 use Rattle.tx_journal.specs.Replies.{Asked}
 use Rattle.tx_transaction.specs.declared.state.Phase.{Phase}
-use Rattle.tx_transaction.specs.declared.state.Response.{Response}
 use Rattle.tx_client.specs.declared.part.ScanPart.{ScanPart}
 use Rattle.tx_client.specs.declared.part.ScanPart.TheVariants as part
 use Rattle.tx_transaction.specs.declared.state.Miss.{Miss}
@@ -19,7 +18,7 @@ use Rattle.tx_transaction.specs.declared.state.Miss.TheVariants as miss
 use Rattle.tx_transaction.specs.declared.state.Due.{Due}
 use Rattle.tx_transaction.specs.Buffers.{buffered}
 use Rattle.tx_transaction.specs.Sessions.{SessionState, heartbeat_of, read_of, scan_of, after_response, after_read}
-use Rattle.tx_transaction.specs.Returns.{returned, read}
+use Rattle.tx_transaction.specs.Returns.{Response, returned}
 use Rattle.tx_journal.specs.Senders.{Reached}
 use Rattle.tx_client.specs.Learns.{response_of, Learns}
 
@@ -69,7 +68,7 @@ heartbeat_walk s ttl = grows (asks (heartbeat_of s ttl) (λ c. ends (s, returned
 
 -- a read
 abbrev pub look_walk : SessionState → Body → Walk (SessionState × Result Answer Miss)
-look_walk s body = asks body (λ c. ends (after_read s c, read c))
+look_walk s body = asks body (λ c. ends (after_read s c, c))
 
 -- the read of a key: what the buffer puts, inserts or deletes is answered from there
 abbrev pub get_by : SessionState → Key → Option Mutation → Walk (SessionState × Result Answer Miss)

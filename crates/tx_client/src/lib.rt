@@ -12,4 +12,4 @@ pub use order::{commits_above, starts_above};
 pub use requests::ask;
 pub use resolved::{Decision, Met, Resolved, Status, WaitCause};
 pub use session::Session;
-pub use tx_transaction::{BufferEntry, Miss, Phase, Progress, Response, Terms, Transaction};
+pub use tx_transaction::{BufferEntry, Miss, Phase, Progress, Terms, Transaction};

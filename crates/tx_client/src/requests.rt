@@ -1,56 +1,36 @@
 //! One request, by a seat.
 ghost use Rattle.std.specs.Prelude.{◌≡◌};
 ghost use Rattle.tx_core.specs.Allowed.{Allowed};
-ghost use Rattle.tx_transaction.specs.Sessions.{lock_met};
 ghost use Rattle.tx_journal.specs.Senders.{IsHeld, IsSender};
 ghost use Rattle.tx_client.specs.Learns.{Learns, response_by, response_of};
 ghost use Rattle.tx_client.specs.Facts.{RespondsSo};
 ghost use Rattle.tx_client.specs.Calls.{Asks};
 
-use tx_core::Body;
+use tx_core::{Answer, Body};
 use tx_journal::{AnswerWithLock, JournalId, Lost, Reply, Request, Seat, Sender};
-use tx_transaction::Response;
-use tx_types::LockInfo;
-
-/// What came of a request, and a copy of the lock that an answer names as in the way.
-#[derive(Drop)]
-pub(crate) struct Answering {
-    pub(crate) response: Response,
-    pub(crate) lock: Option<LockInfo>,
-}
+use tx_transaction::Miss;
 
 // What a reply comes to.
-fn response_by(answer: Option<AnswerWithLock>) -> Answering
-    ensures response { result.response ≡ response_by answer }
-    ensures lock { result.lock ≡ lock_met result.response }
+fn response_by(answer: Option<AnswerWithLock>) -> Result<AnswerWithLock, Miss>
+    ensures { result ≡ response_by answer }
 {
     match answer {
-        Some(answer) => {
-            let (answer, lock) = answer.into_parts();
-            Answering {
-                response: Response::Answered(answer),
-                lock,
-            }
-        }
-        None => Answering {
-            response: Response::OutOfMemory,
-            lock: None,
-        },
+        Some(answer) => Ok(answer),
+        None => Err(Miss::Fault),
     }
 }
 
 // A seat learns what a reply tells, if one came.
 #[inline(never)]
-fn on_reply<J: JournalId>(seat: &mut Seat<J>, reached: Result<Reply<J>, Lost>) -> Answering
-    ensures response { result.response ≡ response_of reached }
-    ensures lock { result.lock ≡ lock_met result.response }
+fn on_reply<J: JournalId>(
+    seat: &mut Seat<J>,
+    reached: Result<Reply<J>, Lost>,
+) -> Result<AnswerWithLock, Miss>
+    ensures response { result ≡ response_of reached }
     ensures learns { Learns J.bounds seat.old reached seat.new }
 {
     match reached {
-        Err(_) => Answering {
-            response: Response::Lost,
-            lock: None,
-        },
+        Err(_) => Err(Miss::Lost),
         Ok(reply) => {
             let (_, answer, told) = reply.into_all();
             seat.learn(told);
@@ -60,17 +40,17 @@ fn on_reply<J: JournalId>(seat: &mut Seat<J>, reached: Result<Reply<J>, Lost>) -
 }
 
 /// Sends a request, once, that is allowed after what the seat has seen, and learns what is told.
+/// With the answer comes a copy of the lock that it names as in the way.
 pub(crate) fn ask_with_lock<J: JournalId, S: Sender<Request<J>, Reply<J>>>(
     seat: &mut Seat<J>,
     body: Body,
     sender: &mut S,
-) -> Answering
+) -> Result<AnswerWithLock, Miss>
     requires way { IsSender J.bounds S.fits S.sends S.keys_between }
     requires held { IsHeld J.bounds body }
     requires allowed { Allowed seat.old.events body }
-    ensures asked { Asks S.sends J.bounds seat.old body sender.old sender.new result.response seat.new }
-    ensures told { RespondsSo seat.new.events body result.response }
-    ensures lock { result.lock ≡ lock_met result.response }
+    ensures asked { Asks S.sends J.bounds seat.old body sender.old sender.new result seat.new }
+    ensures told { RespondsSo seat.new.events body result }
 {
     let told = seat.tell();
     on_reply(seat, sender.send(Request::new(told, body)))
@@ -81,13 +61,12 @@ pub fn ask<J: JournalId, S: Sender<Request<J>, Reply<J>>>(
     seat: &mut Seat<J>,
     body: Body,
     sender: &mut S,
-) -> Response
+) -> Result<Answer, Miss>
     requires way { IsSender J.bounds S.fits S.sends S.keys_between }
     requires held { IsHeld J.bounds body }
     requires allowed { Allowed seat.old.events body }
     ensures asked { Asks S.sends J.bounds seat.old body sender.old sender.new result seat.new }
     ensures told { RespondsSo seat.new.events body result }
 {
-    let Answering { response, lock: _ } = ask_with_lock(seat, body, sender);
-    response
+    Ok(ask_with_lock(seat, body, sender)?.into_answer())
 }

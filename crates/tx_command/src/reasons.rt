@@ -208,6 +208,7 @@ fn wrong_value(
     task: CommandTask,
     fault: NotedFaults,
     value: &Value,
+    state: Option<&str>,
 ) -> Result<Option<String>, AllocError> {
     let Some(members) = value.as_array() else {
         return Ok(Some("the line is no array".to_string(alloc)?));
@@ -220,19 +221,20 @@ fn wrong_value(
     };
     match fault.cause {
         Cause::Name => wrong_name(alloc, word, members),
-        Cause::Order => wrong_state(alloc, word, members),
+        Cause::Order => wrong_state(alloc, word, members, state),
         Cause::Sessions => too_many(alloc, word),
         _ => wrong_step(alloc, task, fault.number, word, members),
     }
 }
 
 /// Why a line is a fault, where that can be said of the line: the member, and the rule that it
-/// breaks.
+/// breaks; or `state`, what is so of its session, where that is known.
 pub fn why(
     alloc: Global,
     task: CommandTask,
     fault: NotedFaults,
     line: &[u8],
+    state: Option<&str>,
 ) -> Result<Option<String>, AllocError> {
     match fault.cause {
         Cause::Long | Cause::Lines => return Ok(None),
@@ -244,7 +246,7 @@ pub fn why(
     match Value::from_slice(alloc, line) {
         Ok(value) => match task {
             CommandTask::Import(_) => wrong_transaction(alloc, &value),
-            _ => wrong_value(alloc, task, fault, &value),
+            _ => wrong_value(alloc, task, fault, &value, state),
         },
         Err(error) if error.is_memory() => Err(AllocError),
         Err(error) => Ok(Some(wrong_json(alloc, line, &error)?)),
@@ -252,16 +254,17 @@ pub fn why(
 }
 
 /// The sentence for a fault of a task's input: the number of its line, its cause, and why, by the
-/// line where it is at hand.
+/// line where it is at hand, and by what is so of its session where that is known.
 pub fn reason(
     alloc: Global,
     task: CommandTask,
     fault: NotedFaults,
     line: Option<&[u8]>,
+    state: Option<&str>,
 ) -> Result<String, AllocError> {
     let NotedFaults { number, cause } = fault;
     let found = match line {
-        Some(line) => why(alloc, task, fault, line)?,
+        Some(line) => why(alloc, task, fault, line, state)?,
         None => None,
     };
     let word = word_of(cause);

@@ -79,13 +79,18 @@ fn state_against(word: &str) -> Option<&'static str> {
     }
 }
 
-/// Why the state of its session does not allow the step with this word and these members.
+/// Why the state of its session does not allow the step with this word and these members: what is
+/// so of the session, where that is known.
 pub(crate) fn wrong_state(
     alloc: Global,
     word: &str,
     members: &[Value],
+    known: Option<&str>,
 ) -> Result<Option<String>, AllocError> {
-    let (Some(name), Some(state)) = (members.first(), state_against(word)) else {
+    let Some(state) = known.or(state_against(word)) else {
+        return Ok(None);
+    };
+    let Some(name) = members.first() else {
         return Ok(None);
     };
     let name = shown(alloc, name)?;

@@ -284,7 +284,7 @@ fn sentence_of(
     line: &[u8],
 ) -> Result<String, Fail> {
     let fault = NotedFaults { number: 4, cause };
-    Ok(reason(alloc, task, fault, Some(line))?)
+    Ok(reason(alloc, task, fault, Some(line), None)?)
 }
 
 #[test]
@@ -320,7 +320,7 @@ fn lines_that_cannot_be_shown_have_a_sentence(rt: HostRuntime) -> Result<(), Fai
         number: 1_000_001,
         cause: Cause::Lines,
     };
-    let told = reason(rt.alloc(), CommandTask::Run(2, None), fault, None)?;
+    let told = reason(rt.alloc(), CommandTask::Run(2, None), fault, None, None)?;
     assert_eq!(rt;
         told.as_str(),
         "line 1000001: lines: the script has more than 1000000 lines"
@@ -436,7 +436,21 @@ fn is_faulted(alloc: Global, task: CommandTask, line: &str) -> Result<bool, Fail
         number: 2,
         cause: Cause::Form,
     };
-    Ok(why(alloc, task, fault, line.as_bytes())?.is_some())
+    Ok(why(alloc, task, fault, line.as_bytes(), None)?.is_some())
+}
+
+// Where it is known what is so of the session, that alone is said of it.
+#[test]
+fn what_is_known_of_a_session_is_the_reason(rt: HostRuntime) -> Result<(), Fail> {
+    let fault = NotedFaults {
+        number: 4,
+        cause: Cause::Order,
+    };
+    let line = b"[\"draw\",\"A\"]";
+    let state = Some("is aborted");
+    let told = reason(rt.alloc(), CommandTask::Simulate, fault, Some(line), state)?;
+    assert_eq!(rt; told.as_str(), "line 4: order: session \"A\" is aborted");
+    Ok(())
 }
 
 // Something is wrong with just the lines that are no steps.

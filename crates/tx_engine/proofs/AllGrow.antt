@@ -12,8 +12,8 @@ use Rattle.tx_core.specs.declared.event.Declaration.{Declaration}
 use Rattle.tx_core.specs.declared.event.Outcome.{Outcome}
 use Rattle.tx_core.specs.Histories.{History, last, Begins}
 use Rattle.tx_core.proofs.seats.Beginnings.{begins_all, begins_more}
-use Rattle.tx_transaction.specs.declared.state.Response.{Response}
-use Rattle.tx_transaction.specs.declared.state.Response.TheVariants as response
+use Rattle.tx_transaction.specs.Returns.{Response}
+use Rattle.tx_transaction.specs.declared.state.Miss.TheVariants as miss
 use Rattle.tx_transaction.specs.Sessions.{SessionState, is_declared, exceeds, declaration, can_draw, finish_of, notes_one}
 use Rattle.tx_transaction.specs.declared.state.Terms.{Terms}
 use Rattle.tx_client.specs.Walks.{Walk, asks, grows, ends}
@@ -35,9 +35,9 @@ use Rattle.tx_steps.specs.declared.step.Step.TheVariants as step
 use Rattle.tx_types.specs.Lengths.{is_key}
 use Rattle.tx_ops.specs.Edits.{Edit, is_refused, later_of, puts, inserts, deletes, locks}
 use Rattle.tx_ops.specs.Edits as edit
-use Rattle.tx_ops.specs.Calls.{Said, call_walk}
+use Rattle.tx_ops.specs.Calls.{Said, read_reply, call_walk}
 use Rattle.tx_ops.proofs.Ending.{AllEnds, Any, all_end, Tells, call_tells}
-use Rattle.tx_engine.specs.Semantics.{EngineState, Transition, goes, inquires, shows, stops, calls, at_network, began, declared_in, placed_in, placed, seat_at, answers, asked, sent, runs, came, first_free, live_at, is_too_many, edited, edits, sends, delivered_by, delivers, finishes_by, begins_at, in_session, turn, learns, resolves_by, collected_as, sends_by}
+use Rattle.tx_engine.specs.Semantics.{EngineState, Transition, goes, inquires, shows, stops, calls, at_network, began, declared_in, placed_in, placed, seat_at, answers, asked, sent, runs, came, first_free, live_at, is_too_many, edited, edits, sends, delivers, finishes_by, begins_at, in_session, turn, learns, resolves_by, collected_as, sends_by}
 use Rattle.tx_engine.specs.Plays.{Leads}
 
 -- Whatever a turn leads to, and wherever it asks a region, h has happened there; it stops at most
@@ -73,9 +73,9 @@ module _ (bounds : List Key) (from : History) where
     begins_all engine.network.history,
     λ a. grows_more from engine.network.history
         (taken bounds engine.network body a).history
-        (on (response.Answered a) (at_network engine (taken bounds engine.network body a)) left)
+        (on (Ok a) (at_network engine (taken bounds engine.network body a)) left)
         (inr (begins_all engine.network.history))
-        (grow (response.Answered a) (at_network engine (taken bounds engine.network body a)) left),
+        (grow (Ok a) (at_network engine (taken bounds engine.network body a)) left),
   )
 
   asked_grows : (refused : List Bool) (engine : EngineState) (body : Body) (on : Response → EngineState → List Bool
@@ -84,23 +84,23 @@ module _ (bounds : List Key) (from : History) where
   asked_grows refused engine body on grow =
       either from engine.network.history (takes_memory body) _ _
       (either from engine.network.history (is_refused refused) _ _
-      (grow response.OutOfMemory engine (later_of refused)) (answers_grow engine body on grow (later_of refused)))
+      (grow (Err miss.Fault) engine (later_of refused)) (answers_grow engine body on grow (later_of refused)))
       (answers_grow engine body on grow refused)
 
   sent_grows : (delivery : Delivery Text) (refused : List Bool) (engine : EngineState) (body : Body) (on : Response
       → EngineState → List Bool → Transition) → ((c : Response) → Later from (on c))
       → AllGrow from engine.network.history (sent bounds delivery refused engine body on)
   sent_grows deliveries.Taken refused engine body on grow = asked_grows refused engine body on grow
-  sent_grows deliveries.Lost refused engine body on grow = grow response.Lost engine refused
+  sent_grows deliveries.Lost refused engine body on grow = grow (Err miss.Lost) engine refused
   sent_grows deliveries.Unanswered refused engine body on grow =
-      asked_grows refused engine body (λ c. on response.Lost) (λ c. grow response.Lost)
+      asked_grows refused engine body (λ c. on (Err miss.Lost)) (λ c. grow (Err miss.Lost))
   sent_grows deliveries.Repeated refused engine body on grow =
-      either from engine.network.history (is_refused refused) _ _ (grow response.OutOfMemory engine (later_of refused))
+      either from engine.network.history (is_refused refused) _ _ (grow (Err miss.Fault) engine (later_of refused))
       (asked_grows (later_of refused) engine body (λ c next left. asked bounds left next body on)
       (λ c next left. asked_grows left next body on grow))
   sent_grows (deliveries.Held name) refused engine body on grow =
-      either from engine.network.history (is_refused refused) _ _ (grow response.OutOfMemory engine (later_of refused))
-      (grow response.Lost (at_network engine (holding engine.network name body)) (later_of refused))
+      either from engine.network.history (is_refused refused) _ _ (grow (Err miss.Fault) engine (later_of refused))
+      (grow (Err miss.Lost) (at_network engine (holding engine.network name body)) (later_of refused))
 
   -- by what each of its ends is
   ends_grow : {R : Type 0} (P : R → Type 0) (delivery : Delivery Text) (refused : List Bool) (engine : EngineState)
@@ -188,8 +188,8 @@ module _ (bounds : List Key) where
     deliver_grows : (refused : List Bool) (o : Option Body) → AllGrow h h (delivers bounds refused engine o)
     deliver_grows refused None = begins_all h
     deliver_grows refused (Some body) =
-        calls_grow refused (λ left. asked bounds left engine body (λ c next rest. goes next (delivered_by c) rest))
-        (λ left. asked_grows bounds h left engine body (λ c next rest. goes next (delivered_by c) rest)
+        calls_grow refused (λ left. asked bounds left engine body (λ c next rest. goes next (read_reply c) rest))
+        (λ left. asked_grows bounds h left engine body (λ c next rest. goes next (read_reply c) rest)
         (λ c next rest. begins_all next.network.history))
 
     session_grows : (o : Option (ℕ × SessionState)) (more : ℕ → SessionState → Transition)
@@ -253,12 +253,12 @@ module _ (bounds : List Key) where
           key = key;
           at = at;
           bypass = [];
-        })) (λ c next rest. goes next (delivered_by c) rest))
+        })) (λ c next rest. goes next (read_reply c) rest))
         (λ left. asked_grows bounds h left engine (request.Get (record {
           key = key;
           at = at;
           bypass = [];
-        })) (λ c next rest. goes next (delivered_by c) rest)
+        })) (λ c next rest. goes next (read_reply c) rest)
         (λ c next rest. begins_all next.network.history)))
     turn_grows refused (step.Versions key) =
         either h h (not (is_key key)) _ _ (begins_all h)

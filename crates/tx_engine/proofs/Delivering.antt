@@ -13,7 +13,8 @@ use Rattle.tx_reply.specs.declared.reply.ScriptReply.{ScriptReply}
 use Rattle.tx_reply.specs.declared.reply.ScriptReply.TheVariants as reply
 use Rattle.tx_network.specs.Networks.{NetworkParts, region_for, made_by, Hands, request_at, IsTraced, network_state}
 use Rattle.tx_steps.specs.declared.step.Step.TheVariants as step
-use Rattle.tx_engine.specs.Semantics.{SlotState, goes, delivered_by, delivers, turn}
+use Rattle.tx_ops.specs.Calls.{read_reply}
+use Rattle.tx_engine.specs.Semantics.{SlotState, goes, delivers, turn}
 use Rattle.tx_engine.specs.Plays.{Leads}
 use Rattle.tx_engine.specs.Slots.{seat_in, slot_of, Held, name_at, engine_with, engine_state, made_in, AreSeated, AllSeated, Goes, GoesTo, Handed, Delivered, Turned}
 use Rattle.tx_network.proofs.Walking.{take_one}
@@ -59,7 +60,7 @@ module _ (bounds : List Key) (name : List ℕ) where
 
     -- its region took a copy
     pub delivered : (g : Given) → Hands (region_for bounds q.body) from to q g → (said : ScriptReply)
-        → delivered_by (response_by g.answer) ≡ said → Handed bounds name said from to
+        → read_reply (response_by g.answer) ≡ said → Handed bounds name said from to
     delivered g hands said is =
         let one = take_one bounds from to q g hands in
         record {
@@ -71,7 +72,7 @@ module _ (bounds : List Key) (name : List ℕ) where
               (let engine = engine_with (network_state from) ticks names slots in
               let led = asked_leads bounds (λ later n told left. (n ≡ engine_with (network_state to) ticks names slots)
               × (told ≡ said) × (left ≡ later)) engine q.body (response_by g.answer) (network_state to)
-              (one.exact le) (λ c next left. goes next (delivered_by c) left) in (
+              (one.exact le) (λ c next left. goes next (read_reply c) left) in (
                 false ∷ led.0,
                 λ later. subst (Leads bounds (λ n told left. (n ≡ engine_with (network_state to) ticks names slots)
                     × (told ≡ said) × (left ≡ later)) (λ c. ⊥)) (sym (delivers_is (false
@@ -82,11 +83,11 @@ module _ (bounds : List Key) (name : List ℕ) where
     -- what came of it, by its answer
     pub handed : (o : Option Answer) → ((o ≡ None) × (to ≡ from))
         ⊎ ((g : Given) × Hands (region_for bounds q.body) from to q g × (o ≡ g.answer)) → (said : ScriptReply)
-        → delivered_by (response_by o) ≡ said → Handed bounds name said from to
+        → read_reply (response_by o) ≡ said → Handed bounds name said from to
     handed o (inl (none, same)) said is = subst (λ r. Handed bounds name r from to)
-        (ap (λ x. delivered_by (response_by x)) (sym none) ∙ is) (not_copied same)
+        (ap (λ x. read_reply (response_by x)) (sym none) ∙ is) (not_copied same)
     handed o (inr (g, hands, same)) said is = delivered g hands said
-        (ap (λ x. delivered_by (response_by x)) (sym same) ∙ is)
+        (ap (λ x. read_reply (response_by x)) (sym same) ∙ is)
 
   -- ---- the step
 

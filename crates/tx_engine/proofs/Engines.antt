@@ -19,9 +19,10 @@ use Rattle.tx_core.specs.declared.event.Event.TheVariants.{Began, Drawn, Answere
 use Rattle.tx_core.specs.declared.event.Outcome.{Outcome}
 use Rattle.tx_core.specs.Histories.{History, last}
 use Rattle.tx_journal.specs.Known.{Known}
-use Rattle.tx_transaction.specs.declared.state.Response.{Response}
+use Rattle.tx_transaction.specs.Returns.{Response}
 use Rattle.tx_client.specs.Calls.{Seated}
 use Rattle.tx_transaction.specs.Sessions.{begun, finish_of}
+use Rattle.tx_ops.specs.Calls.{read_reply}
 use Rattle.tx_engine.specs.declared.slots.SessionSlot.TheVariants.{Free, Live, Lent}
 use Rattle.tx_reply.specs.declared.reply.ScriptReply.{ScriptReply}
 use Rattle.tx_reply.specs.declared.reply.ScriptReply.TheVariants as reply
@@ -32,7 +33,7 @@ use Rattle.tx_steps.specs.declared.step.Step.{Step}
 use Rattle.tx_steps.specs.declared.step.Step.TheVariants as step
 use Rattle.tx_steps.specs.Steps.{Text}
 use Rattle.tx_types.specs.Lengths.{is_key}
-use Rattle.tx_engine.specs.Semantics.{EngineState, Transition, free, session, goes, stops, delivered_by, asked, at_network, at_history, seat_at, began, gone, ticked, first_free, lives, at_slot, live_at, in_session, finishes, finishes_by, leaves, turn}
+use Rattle.tx_engine.specs.Semantics.{EngineState, Transition, free, session, goes, stops, asked, at_network, at_history, seat_at, began, gone, ticked, first_free, lives, at_slot, live_at, in_session, finishes, finishes_by, leaves, turn}
 use Rattle.tx_engine.specs.Plays.{Leads}
 use Rattle.tx_engine.specs.Slots.{ActsIn, SlotContent, slot_of, Held, texts, name_at, engine_with, engine_state, AllSeated, Acts, Serves, Stays, Goes, Did, Turned, TurnedBy}
 use Rattle.tx_engine.proofs.Keeping.{set_here, seated_at, at_place_of, acted, served, rested, known_ticks}
@@ -197,12 +198,17 @@ module _ (bounds : List Key) where
       pub no_place : length old.slots ≤ k → live_at (engine_state old) name ≡ None
       no_place le = at_name None (slice_get_past old.slots k le)
 
+      -- its slot is free, where the slots have seats
+      pub is_free : (n : ℕ) (x : SlotContent) → slice_get old.slots k ≡ Some x → ((s : Seated) → x ≡ Live s → ⊥)
+          → AllSeated bounds n old → live_at (engine_state old) name ≡ None
+      is_free n (Free s) is never ready = at_name (Some (Free s)) is
+      is_free n (Live s) is never ready = absurd (never s refl)
+      is_free n Lent is never ready = absurd (seated_at (length bounds + 2) n k (length bounds + 2
+          + k) old.slots Lent refl is ready.slots)
+
       pub not_live : (x : SlotContent) → slice_get old.slots k ≡ Some x → ((s : Seated) → x ≡ Live s → ⊥)
           → AllSeated bounds 1 old → live_at (engine_state old) name ≡ None
-      not_live (Free s) is never ready = at_name (Some (Free s)) is
-      not_live (Live s) is never ready = absurd (never s refl)
-      not_live Lent is never ready = absurd (seated_at (length bounds + 2) 1 k (length bounds + 2
-          + k) old.slots Lent refl is ready.slots)
+      not_live x is never ready = is_free 1 x is never ready
 
       pub is_live : (s : Seated) → slice_get old.slots k ≡ Some (Live s)
           → live_at (engine_state old) name ≡ Some (k, s.state)
@@ -401,7 +407,7 @@ module _ (bounds : List Key) where
             at = at;
             bypass = [];
           })) c (network_state new.network))
-          → Goes bounds old new (Turned bounds (step.Read key at) (Ok (delivered_by c)) old new)
+          → Goes bounds old new (Turned bounds (step.Read key at) (Ok (read_reply c)) old new)
       step_read c ticks serves =
           served bounds old new _ _ slots serves
           (λ met.
@@ -409,11 +415,11 @@ module _ (bounds : List Key) where
           let there : at_network (engine_state old) (network_state new.network) ≡ engine_state new =
           λ i. engine_with (network_state new.network) (sym ticks i) (λ q. name_at (sym names i) q)
           (map slot_of (sym slots i)) in
-          let led = asked_leads bounds (λ later n said left. (n ≡ engine_state new) × (said ≡ delivered_by c)
+          let led = asked_leads bounds (λ later n said left. (n ≡ engine_state new) × (said ≡ read_reply c)
           × (left ≡ later)) (engine_state old) body c (network_state new.network) met
-          (λ d next rest. goes next (delivered_by d) rest) in
+          (λ d next rest. goes next (read_reply d) rest) in
           let is : (later : List Bool) → turn bounds (false ∷ later) (step.Read key at) (engine_state old)
-          ≡ asked bounds later (engine_state old) body (λ d next rest. goes next (delivered_by d) rest) =
+          ≡ asked bounds later (engine_state old) body (λ d next rest. goes next (read_reply d) rest) =
           λ later. rw right refl in (
             false ∷ led.0,
             λ later. subst (Leads bounds _ _) (sym (is (led.0 ++ later))) (led.1 later later (there, refl, refl)),

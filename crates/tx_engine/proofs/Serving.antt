@@ -7,7 +7,7 @@ use Rattle.tx_core.specs.declared.event.Event.TheVariants.{Drawn}
 use Rattle.tx_core.specs.Histories.{last, Begins}
 use Rattle.tx_core.specs.Recording.{part}
 use Rattle.tx_journal.specs.Known.{Known, HasDrawn}
-use Rattle.tx_transaction.specs.declared.state.Response.{Response}
+use Rattle.tx_transaction.specs.Returns.{Response}
 use Rattle.tx_client.specs.Calls.{Asks}
 use Rattle.tx_client.specs.Walks.{Walk, asks, ends}
 use Rattle.tx_steps.specs.declared.delivery.Delivery.TheVariants as deliveries

@@ -3,8 +3,8 @@ use Rattle.std.proofs.Common.{◌≡◌, ℕ, Bool, true, false, cond, List, [],
 use Rattle.tx_types.specs.declared.fault.Cause.{Cause}
 use Rattle.tx_types.specs.declared.key.Key.{Key}
 use Rattle.tx_plan.specs.declared.body.Body.{Body}
-use Rattle.tx_transaction.specs.declared.state.Response.{Response}
-use Rattle.tx_transaction.specs.declared.state.Response.TheVariants as response
+use Rattle.tx_transaction.specs.Returns.{Response}
+use Rattle.tx_transaction.specs.declared.state.Miss.TheVariants as miss
 use Rattle.tx_client.specs.Calls.{Seated}
 use Rattle.tx_transaction.specs.Sessions.{SessionState}
 use Rattle.tx_client.specs.Walks.{Walk, asks, grows, ends, Sends}
@@ -36,30 +36,30 @@ module _ (bounds : List Key) (Goes : List Bool → EngineState → ScriptReply �
   pub asked_leads : (engine : EngineState) (body : Body) (c : Response) (next : NetworkState)
       → Met bounds engine.network body c next → (on : Response → EngineState → List Bool → Transition)
       → Leading bounds Goes (on c (at_network engine next)) (λ refused. asked bounds refused engine body on)
-  asked_leads engine body response.Lost next met on = absurd met
-  asked_leads engine body response.OutOfMemory next met on = (
+  asked_leads engine body (Err miss.Lost) next met on = absurd met
+  asked_leads engine body (Err miss.Fault) next met on = (
     true ∷ [],
     λ g later leads. by_need g later (takes_memory body) met.0
-        (subst (λ s. Leads bounds (Goes g) (λ c. ⊥) (on response.OutOfMemory (at_network engine s) later)) met.1 leads),
+        (subst (λ s. Leads bounds (Goes g) (λ c. ⊥) (on (Err miss.Fault) (at_network engine s) later)) met.1 leads),
   )
     where
       by_need : (g later : List Bool) (b : Bool) → b ≡ true
-          → Leads bounds (Goes g) (λ c. ⊥) (on response.OutOfMemory engine later)
-          → Leads bounds (Goes g) (λ c. ⊥) (cond b (on response.OutOfMemory engine later)
+          → Leads bounds (Goes g) (λ c. ⊥) (on (Err miss.Fault) engine later)
+          → Leads bounds (Goes g) (λ c. ⊥) (cond b (on (Err miss.Fault) engine later)
           (answers bounds engine body on (true ∷ later)))
       by_need g later true needs leads = leads
       by_need g later false needs leads = absurd (cc (needs))
-  asked_leads engine body (response.Answered a) next met on = by_need (takes_memory body)
+  asked_leads engine body (Ok a) next met on = by_need (takes_memory body)
     where
-      by_need : (b : Bool) → Leading bounds Goes (on (response.Answered a) (at_network engine next))
-          (λ refused. cond b (cond (is_refused refused) (on response.OutOfMemory engine (later_of refused))
+      by_need : (b : Bool) → Leading bounds Goes (on (Ok a) (at_network engine next))
+          (λ refused. cond b (cond (is_refused refused) (on (Err miss.Fault) engine (later_of refused))
           (answers bounds engine body on (later_of refused))) (answers bounds engine body on refused))
       by_need true = (
         false ∷ [],
         λ g later leads. (
           a,
           met.0,
-          subst (λ s. Leads bounds (Goes g) (λ c. ⊥) (on (response.Answered a) (at_network engine s) later)) met.1
+          subst (λ s. Leads bounds (Goes g) (λ c. ⊥) (on (Ok a) (at_network engine s) later)) met.1
               leads,
         ),
       )
@@ -68,7 +68,7 @@ module _ (bounds : List Key) (Goes : List Bool → EngineState → ScriptReply �
         λ g later leads. (
           a,
           met.0,
-          subst (λ s. Leads bounds (Goes g) (λ c. ⊥) (on (response.Answered a) (at_network engine s) later)) met.1
+          subst (λ s. Leads bounds (Goes g) (λ c. ⊥) (on (Ok a) (at_network engine s) later)) met.1
               leads,
         ),
       )
@@ -77,17 +77,17 @@ module _ (bounds : List Key) (Goes : List Bool → EngineState → ScriptReply �
       → Reach bounds (Some delivery) engine.network body c next → (on : Response → EngineState → List Bool → Transition)
       → Leading bounds Goes (on c (at_network engine next)) (λ refused. sent bounds delivery refused engine body on)
   sent_leads deliveries.Taken engine body c next reach on = asked_leads engine body c next reach on
-  sent_leads deliveries.Lost engine body response.Lost next reach on = (
+  sent_leads deliveries.Lost engine body (Err miss.Lost) next reach on = (
     [],
-    λ g later leads. subst (λ s. Leads bounds (Goes g) (λ c. ⊥) (on response.Lost (at_network engine s) later))
+    λ g later leads. subst (λ s. Leads bounds (Goes g) (λ c. ⊥) (on (Err miss.Lost) (at_network engine s) later))
         reach leads,
   )
-  sent_leads deliveries.Lost engine body response.OutOfMemory next reach on = absurd reach
-  sent_leads deliveries.Lost engine body (response.Answered a) next reach on = absurd reach
-  sent_leads deliveries.Unanswered engine body response.Lost next (c, met) on =
-      asked_leads engine body c next met (λ d. on response.Lost)
-  sent_leads deliveries.Unanswered engine body response.OutOfMemory next reach on = absurd reach
-  sent_leads deliveries.Unanswered engine body (response.Answered a) next reach on = absurd reach
+  sent_leads deliveries.Lost engine body (Err miss.Fault) next reach on = absurd reach
+  sent_leads deliveries.Lost engine body (Ok a) next reach on = absurd reach
+  sent_leads deliveries.Unanswered engine body (Err miss.Lost) next (c, met) on =
+      asked_leads engine body c next met (λ d. on (Err miss.Lost))
+  sent_leads deliveries.Unanswered engine body (Err miss.Fault) next reach on = absurd reach
+  sent_leads deliveries.Unanswered engine body (Ok a) next reach on = absurd reach
   sent_leads deliveries.Repeated engine body c next (inl (is, same)) on = (
     true ∷ [],
     λ g later leads. subst (λ (p : Response
@@ -104,17 +104,17 @@ module _ (bounds : List Key) (Goes : List Bool → EngineState → ScriptReply �
             (asked bounds bits engine body (λ d at left. asked bounds left at body on)))
             (sym (append_assoc one.0 two.0 later)) (one.1 g (two.0 ++ later) (two.1 g later leads)),
       )
-  sent_leads (deliveries.Held name) engine body response.Lost next reach on = (
+  sent_leads (deliveries.Held name) engine body (Err miss.Lost) next reach on = (
     false ∷ [],
     λ g later leads. subst (λ s. Leads bounds (Goes g) (λ c. ⊥)
-        (on response.Lost (at_network engine s) later)) reach leads,
+        (on (Err miss.Lost) (at_network engine s) later)) reach leads,
   )
-  sent_leads (deliveries.Held name) engine body response.OutOfMemory next reach on = (
+  sent_leads (deliveries.Held name) engine body (Err miss.Fault) next reach on = (
     true ∷ [],
     λ g later leads. subst (λ s. Leads bounds (Goes g) (λ c. ⊥)
-        (on response.OutOfMemory (at_network engine s) later)) reach leads,
+        (on (Err miss.Fault) (at_network engine s) later)) reach leads,
   )
-  sent_leads (deliveries.Held name) engine body (response.Answered a) next reach on = absurd reach
+  sent_leads (deliveries.Held name) engine body (Ok a) next reach on = absurd reach
 
   -- what a walk comes to where nobody else acts, its turn leads to
   pub runs_lead : {R : Type 0} (delivery : Delivery Text) (w : Walk R) (engine : EngineState) (r : R)

@@ -2,3 +2,4 @@ pub mod Semantics
 pub mod Plays
 pub mod Slots
 pub mod Openings
+pub mod Stages

@@ -20,8 +20,8 @@ use Rattle.tx_core.specs.declared.event.Outcome.{Outcome}
 use Rattle.tx_core.specs.declared.event.Event.TheVariants.{Drawn, Began, Declared, Answered, Stopped}
 use Rattle.tx_core.specs.Histories.{History, last}
 use Rattle.tx_transaction.specs.declared.state.Terms.{Terms}
-use Rattle.tx_transaction.specs.declared.state.Response.{Response}
-use Rattle.tx_transaction.specs.declared.state.Response.TheVariants as response
+use Rattle.tx_transaction.specs.Returns.{Response}
+use Rattle.tx_transaction.specs.declared.state.Miss.TheVariants as miss
 use Rattle.tx_client.specs.declared.resolved.Status.{Status}
 use Rattle.tx_client.specs.declared.resolved.Status.TheVariants as status
 use Rattle.tx_client.specs.declared.resolved.WaitCause.TheVariants as wait
@@ -37,7 +37,7 @@ use Rattle.tx_reply.specs.declared.reply.ScriptReply.{ScriptReply}
 use Rattle.tx_reply.specs.declared.reply.ScriptReply.TheVariants as reply
 use Rattle.tx_ops.specs.Edits.{Edit, is_refused, later_of, puts, inserts, deletes, locks}
 use Rattle.tx_ops.specs.Edits as edit
-use Rattle.tx_ops.specs.Calls.{Said, call_walk}
+use Rattle.tx_ops.specs.Calls.{Said, read_reply, call_walk}
 use Rattle.tx_types.specs.Names.{is_name}
 use Rattle.tx_steps.specs.declared.delivery.Delivery.{Delivery}
 use Rattle.tx_steps.specs.Steps.{Text}
@@ -166,7 +166,7 @@ module _ (bounds : List Key) where
   -- a region takes a request, and its reply comes
   abbrev pub answers : EngineState → Body → (Response → EngineState → List Bool → Transition) → List Bool → Transition
   answers engine body on left =
-      inquires engine.network body (λ a. on (response.Answered a)
+      inquires engine.network body (λ a. on (Ok a)
       (at_network engine (taken bounds engine.network body a)) left)
 
   -- a region is asked: where it may need memory for its answer, that may be refused, and then it
@@ -174,7 +174,7 @@ module _ (bounds : List Key) where
   abbrev pub asked : List Bool → EngineState → Body → (Response → EngineState → List Bool → Transition) → Transition
   asked refused engine body on =
       if takes_memory body
-      then (if is_refused refused then on response.OutOfMemory engine (later_of refused)
+      then (if is_refused refused then on (Err miss.Fault) engine (later_of refused)
       else answers engine body on (later_of refused))
       else answers engine body on refused
 
@@ -182,14 +182,14 @@ module _ (bounds : List Key) where
   abbrev pub sent : Delivery Text → List Bool → EngineState → Body → (Response → EngineState → List Bool → Transition)
       → Transition
   sent deliveries.Taken refused engine body on = asked refused engine body on
-  sent deliveries.Lost refused engine body on = on response.Lost engine refused
-  sent deliveries.Unanswered refused engine body on = asked refused engine body (λ c. on response.Lost)
+  sent deliveries.Lost refused engine body on = on (Err miss.Lost) engine refused
+  sent deliveries.Unanswered refused engine body on = asked refused engine body (λ c. on (Err miss.Lost))
   sent deliveries.Repeated refused engine body on =
-      if is_refused refused then on response.OutOfMemory engine (later_of refused)
+      if is_refused refused then on (Err miss.Fault) engine (later_of refused)
       else asked (later_of refused) engine body (λ c next left. asked left next body on)
   sent (deliveries.Held name) refused engine body on =
-      if is_refused refused then on response.OutOfMemory engine (later_of refused)
-      else on response.Lost (at_network engine (holding engine.network name body)) (later_of refused)
+      if is_refused refused then on (Err miss.Fault) engine (later_of refused)
+      else on (Err miss.Lost) (at_network engine (holding engine.network name body)) (later_of refused)
 
   -- the requests of a walk
   abbrev pub runs : {R : Type 0} → Delivery Text → List Bool → EngineState → Walk R
@@ -341,18 +341,12 @@ collects bounds refused engine safe = runs bounds deliveries.Taken refused engin
 
 -- ---- delivery
 
--- what a delivered request gives
-abbrev pub delivered_by : Response → ScriptReply
-delivered_by response.Lost = reply.Lost
-delivered_by response.OutOfMemory = reply.OutOfMemory
-delivered_by (response.Answered a) = reply.Answered a
-
 -- a copy of a held request is made and taken, and its session hears nothing of it; the request
 -- stays held
 abbrev pub delivers : List Key → List Bool → EngineState → Option Body → Transition
 delivers bounds refused engine None = stops Name
 delivers bounds refused engine (Some body) =
-    calls refused engine (λ left. asked bounds left engine body (λ c next rest. goes next (delivered_by c) rest))
+    calls refused engine (λ left. asked bounds left engine body (λ c next rest. goes next (read_reply c) rest))
 
 -- ---- what is kept of a key
 
@@ -390,7 +384,7 @@ module _ (bounds : List Key) where
         key = key;
         at = at;
         bypass = [];
-      })) (λ c next rest. goes next (delivered_by c) rest))
+      })) (λ c next rest. goes next (read_reply c) rest))
 
   -- at least one tick is drawn, and no more than the seat has left
   abbrev pub ticks_by : List Bool → EngineState → ℕ → Transition

@@ -11,8 +11,8 @@ ghost use Rattle.tx_engine.specs.Semantics.{declared_in, placed_in};
 
 use std::alloc::Global;
 use tx_cells::Families;
-use tx_client::{Response, Session, Terms, ask};
-use tx_core::{Body, Declaration, Get, Outcome, Starts};
+use tx_client::{Miss, Session, Terms, ask};
+use tx_core::{Answer, Body, Declaration, Get, Outcome, Starts};
 use tx_journal::{JournalId, Seat};
 use tx_network::Network;
 use tx_steps::Delivery;
@@ -213,7 +213,7 @@ pub(crate) fn read_at<J: JournalId, F: Families>(
     network: &mut Network<J, F>,
     key: Key,
     at: Ts,
-) -> Response
+) -> Result<Answer, Miss>
     ensures ticks { system_seat.new.ticks ≡ system_seat.old.ticks }
     ensures serves { Serves system_seat.old system_seat.new network.old network.new
         (Met J.bounds (network_state network.old) (body.Get record {

@@ -1,10 +1,9 @@
 //! An engine in one thread: slots with seats and sessions, names that point to slots, a seat for
 //! what no session does, and the network.
-ghost use Rattle.std.specs.Prelude.{◌≡◌, ◌+◌, length, ℕ, List, [], Some, None, OnOk, OnErr, option_map, bytes_eq};
-ghost use Rattle.std.specs.Map.{update};
-ghost use Rattle.std.specs.BTreeMap.{get_by_text};
-ghost use Rattle.tx_engine.specs.Slots.{Held, Goes, AllSeated, Settled, Turned, TurnedBy};
-ghost use Rattle.tx_engine.specs.Semantics.{delivered_by, edits, in_session, live_at, sends};
+ghost use Rattle.std.specs.Prelude.{◌≡◌, ◌+◌, length, [], Some, None, option_map};
+ghost use Rattle.tx_engine.specs.Slots.{Held, engine_state, Goes, AllSeated, Settled, Turned, TurnedBy};
+ghost use Rattle.tx_engine.specs.Stages.{stage_at};
+ghost use Rattle.tx_engine.specs.Semantics.{edits, in_session, live_at, sends};
 ghost use Rattle.tx_trace.specs.Traces.{Noted, Traces};
 ghost use Rattle.tx_steps.specs.Steps.{acted, asked, called, delivered};
 ghost use Rattle.tx_steps.specs.declared.op.Op.TheVariants as ops;
@@ -13,14 +12,16 @@ ghost use Rattle.tx_steps.specs.declared.step.Step.TheVariants as steps;
 use crate::acts::{begin_at, finish_at, read_at, stop_at, tick_at};
 use crate::operations::{deliver, edit_in, is_key, send_in, versions};
 use crate::resolver::{Direct, collected_as, gc_at, resolve_at};
-use crate::slots::{SessionSlot, first_free, lend, slot_at, swap_slot};
-use std::alloc::{AllocError, Global};
+use crate::slots::{SessionSlot, enter, first_free, lend, slot_at, swap_slot};
+use crate::stage::SessionStage;
+use std::alloc::Global;
 use std::collections::BTreeMap;
 use std::marker::Model;
 use tx_cells::Families;
-use tx_client::{Response, Session};
+use tx_client::Session;
 use tx_journal::{JournalId, Seat, Told};
 use tx_network::Network;
+use tx_ops::reply_to;
 use tx_reply::ScriptReply;
 use tx_steps::{Call, Delivery, Op, Step};
 use tx_trace::Trace;
@@ -63,33 +64,6 @@ impl<J: JournalId, F: Families + Drop> Drop for Engine<J, F> {
             slots: _,
         } = self;
     }
-}
-
-// What comes of a request to a region.
-fn reply_to(response: Response) -> ScriptReply
-    ensures { result ≡ delivered_by response }
-{
-    match response {
-        Response::Lost => ScriptReply::Lost,
-        Response::OutOfMemory => ScriptReply::OutOfMemory,
-        Response::Answered(answer) => ScriptReply::Answered(answer),
-    }
-}
-
-// Enters the slot of a name.
-fn enter(
-    alloc: Global,
-    names: &mut BTreeMap<String, usize>,
-    name: &str,
-    k: usize,
-) -> Result<(), AllocError>
-    ensures sets { OnOk result ((q : List ℕ) → get_by_text names.new q
-        ≡ update bytes_eq (get_by_text names.old) name.now (Some k) q) }
-    ensures same { OnErr result ((q : List ℕ) → get_by_text names.new q ≡ get_by_text names.old q) }
-{
-    let key = String::from_str(alloc, name)?;
-    names.insert(key, k)?;
-    Ok(())
 }
 
 impl<J: JournalId, F: Families> Engine<J, F> {
@@ -323,6 +297,19 @@ impl<J: JournalId, F: Families> Engine<J, F> {
         ensures { result ≡ length J.bounds + 1 }
     {
         self.direct.network.count()
+    }
+
+    /// How far the live session of a name is.
+    pub fn stage(&self, name: &str) -> Option<SessionStage>
+        requires ready { AllSeated J.bounds 0 self.now }
+        ensures { result ≡ stage_at (engine_state self.now) name.now }
+    {
+        let &k = self.names.get(name)?;
+        match self.slots.get(k)? {
+            SessionSlot::Live(session) => Some(SessionStage::of(session.transaction())),
+            SessionSlot::Free(_) => None,
+            SessionSlot::Lent => None,
+        }
     }
 
     /// Keeps the steps of the machine from now on: nothing has happened yet.

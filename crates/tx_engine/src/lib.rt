@@ -9,7 +9,9 @@ mod opening;
 mod operations;
 mod resolver;
 mod slots;
+mod stage;
 
 pub use engine::Engine;
 pub use opening::engine_of;
 pub use slots::SessionSlot;
+pub use stage::SessionStage;

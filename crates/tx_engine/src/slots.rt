@@ -1,11 +1,13 @@
 //! Slots: each has a free seat or a live session.
-ghost use Rattle.std.specs.Prelude.{◌≡◌, ◌<◌, length, map, slice_get, slice_set, Some, IfNone, IfSome};
+ghost use Rattle.std.specs.Prelude.{◌≡◌, ◌<◌, ℕ, List, length, map, slice_get, slice_set, Some, bytes_eq, IfNone, IfSome, OnOk, OnErr};
+ghost use Rattle.std.specs.Map.{update};
 ghost use Rattle.std.specs.BTreeMap.{get_by_text};
 ghost use Rattle.tx_journal.specs.Known.{Known};
 ghost use Rattle.tx_engine.specs.declared.slots.SessionSlot.TheVariants as session_slot;
 ghost use Rattle.tx_engine.specs.Semantics.{first_free as first_of};
 ghost use Rattle.tx_engine.specs.Slots.{slot_of, NamesNone};
 
+use std::alloc::{AllocError, Global};
 use std::collections::BTreeMap;
 use std::mem;
 use tx_client::Session;
@@ -62,6 +64,22 @@ pub(crate) fn slot_at<J: JournalId>(
         return None;
     }
     Some(k)
+}
+
+/// Enters the slot of a name.
+pub(crate) fn enter(
+    alloc: Global,
+    names: &mut BTreeMap<String, usize>,
+    name: &str,
+    k: usize,
+) -> Result<(), AllocError>
+    ensures sets { OnOk result ((q : List ℕ) → get_by_text names.new q
+        ≡ update bytes_eq (get_by_text names.old) name.now (Some k) q) }
+    ensures same { OnErr result ((q : List ℕ) → get_by_text names.new q ≡ get_by_text names.old q) }
+{
+    let key = String::from_str(alloc, name)?;
+    names.insert(key, k)?;
+    Ok(())
 }
 
 /// The live session of a name, where it is one, leaves its slot, which is lent until `swap_slot`

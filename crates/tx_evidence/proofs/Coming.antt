@@ -22,10 +22,8 @@ use Rattle.tx_core.proofs.seats.Staying.{among_on}
 use Rattle.tx_transaction.specs.declared.state.Miss.{Miss}
 use Rattle.tx_transaction.specs.declared.state.Phase.{Phase}
 use Rattle.tx_transaction.specs.declared.state.Due.{Due}
-use Rattle.tx_transaction.specs.declared.state.Response.{Response}
-use Rattle.tx_transaction.specs.declared.state.Response.TheVariants as response
 use Rattle.tx_transaction.specs.Buffers.{buffered}
-use Rattle.tx_transaction.specs.Returns.{returned, read}
+use Rattle.tx_transaction.specs.Returns.{Response, returned}
 use Rattle.tx_transaction.specs.Sessions.{SessionState, read_of, scan_of, heartbeat_of, after_response, after_read}
 use Rattle.tx_client.specs.declared.resolved.Status.TheVariants as status
 use Rattle.tx_client.specs.declared.resolved.WaitCause.TheVariants as cause
@@ -109,9 +107,8 @@ module _ (entered : Entered) (name : Text) where
     where
       came : (l : History) (c : Response) → RespondsSo l due.body c
           → Keeps (ToldMay WasGiven) l (after_response s x due.index c, returned c)
-      came l response.Lost was = (all_with (entered name) s.buffer due.index _ all, tt)
-      came l response.OutOfMemory was = (all_with (entered name) s.buffer due.index _ all, tt)
-      came l (response.Answered a) was = (all_with (entered name) s.buffer due.index _ all, (due.body, was))
+      came l (Err why) was = (all_with (entered name) s.buffer due.index _ all, tt)
+      came l (Ok a) was = (all_with (entered name) s.buffer due.index _ all, (due.body, was))
 
   pub heartbeat_comes : (h : History) (s : SessionState) → Kept s → (ttl : ℕ)
       → Comes (Keeps (ToldMay WasGiven)) h (heartbeat_walk s ttl)
@@ -119,9 +116,8 @@ module _ (entered : Entered) (name : Text) where
     where
       came : (l : History) (c : Response) → RespondsSo l (heartbeat_of s ttl) c
           → Keeps (ToldMay WasGiven) l (s, returned c)
-      came l response.Lost was = (all, tt)
-      came l response.OutOfMemory was = (all, tt)
-      came l (response.Answered a) was = (all, (heartbeat_of s ttl, was))
+      came l (Err why) was = (all, tt)
+      came l (Ok a) was = (all, (heartbeat_of s ttl, was))
 
   -- ---- a get
 
@@ -129,10 +125,9 @@ module _ (entered : Entered) (name : Text) where
   Got key h a = IsOwn entered name key a ⊎ WasRead h key a
 
   looks_comes : (h : History) (s : SessionState) → Kept s → (key : Key) (c : Response) → RespondsSo h (read_of s key) c
-      → Keeps (Told (Got key)) h (after_read s c, read c)
-  looks_comes h s all key response.Lost was = (all, tt)
-  looks_comes h s all key response.OutOfMemory was = (all, tt)
-  looks_comes h s all key (response.Answered a) was = (all, inr (s.start, s.bypass, was))
+      → Keeps (Told (Got key)) h (after_read s c, c)
+  looks_comes h s all key (Err why) was = (all, tt)
+  looks_comes h s all key (Ok a) was = (all, inr (s.start, s.bypass, was))
 
   got_comes : (h : History) (s : SessionState) → Kept s → (key : Key) (o : Option Mutation)
       → ByOption (entered name) key o → Comes (Keeps (Told (Got key))) h (get_by s key o)
@@ -212,14 +207,13 @@ module _ (bounds : List Key) (entered : Entered) (name : Text) (from to : Key) (
         looked : (low high : Key) (n : ℕ) (l : History) → Begins h l → (c : Response)
             → RespondsSo l (scan_of s low high n) c
             → (on : SessionState → List KeyValue → Walk (SessionState × Result Answer Miss)) → GoesOn l on
-            → Comes Scans l (scan_after (after_read s c) (part_by limit rows (read c)) on)
-        looked low high n l begins response.Lost was on more = (all, tt)
-        looked low high n l begins response.OutOfMemory was on more = (all, tt)
-        looked low high n l begins (response.Answered (answer.Rows found)) was on more =
+            → Comes Scans l (scan_after (after_read s c) (part_by limit rows c) on)
+        looked low high n l begins (Err why) was on more = (all, tt)
+        looked low high n l begins (Ok (answer.Rows found)) was on more =
             enough_rows l (rows ++ found) (scanned_more h l begins at rows found before
             ((record { from = low; to = high; at = s.start; limit = n; bypass = s.bypass }, start, was), tt))
-            on more (after_read s (response.Answered (answer.Rows found))) all start
-        looked low high n l begins (response.Answered a) was on more = (all, (scan_of s low high n, was))
+            on more (after_read s (Ok (answer.Rows found))) all start
+        looked low high n l begins (Ok a) was on more = (all, (scan_of s low high n, was))
 
         part_comes : (low high : Key)
             → Comes (PartOf (λ x on. scan_after x.0 x.1 on)) h (part_walk s low high limit rows)
@@ -266,7 +260,7 @@ module _ (met : LockInfo) (who : Who) where
 
   settle_came : (h : History) (end : Fate) (c : Response) → RespondsSo h (settle_of met end) c
       → WasFound h (settled_by end c)
-  settle_came h end (response.Answered answer.Resolved) was = settled_so h end was
+  settle_came h end (Ok answer.Resolved) was = settled_so h end was
   settle_came h end _ was = tt
 
   settle_comes : (h : History) (end : Fate) → Comes WasFound h (settle_walk met end)
@@ -281,10 +275,10 @@ module _ (met : LockInfo) (who : Who) where
 
   forced_came : (h : History) (c : Response) → RespondsSo h (check_of met who true) c
       → Comes WasFound h (after_forced met (primary_by who c))
-  forced_came h (response.Answered (answer.Locked info)) was =
+  forced_came h (Ok (answer.Locked info)) was =
       forced_rests h info was (lets_pass who info.min) (is_async info.mode && is_over who info)
-  forced_came h (response.Answered (answer.Committed c)) was = settle_comes h (fate.Committed c)
-  forced_came h (response.Answered answer.RolledBack) was = settle_comes h fate.Aborted
+  forced_came h (Ok (answer.Committed c)) was = settle_comes h (fate.Committed c)
+  forced_came h (Ok answer.RolledBack) was = settle_comes h fate.Aborted
   forced_came h _ was = tt
 
   forced_comes : (h : History) → Comes WasFound h (forced_walk met who)
@@ -299,16 +293,16 @@ module _ (met : LockInfo) (who : Who) where
       by_mode : (l : History) (info : LockInfo) (m : Mode) → ((n : ℕ) → Comes (λ p o. Comes WasFound p
           (after_others met who o)) l (others_walk met.start keys n)) → Comes (λ p o. Comes WasFound p
           (after_others met who o)) l (further most (others_walk met.start keys)
-          (other_by (response.Answered (answer.Locked (record info { mode = m })))))
+          (other_by (Ok (answer.Locked (record info { mode = m })))))
       by_mode l info TwoPhase more = forced_comes l
       by_mode l info Async more = more (max most info.min)
 
       on : (l : History) (c : Response) → ((n : ℕ) → Comes (λ p o. Comes WasFound p (after_others met who o)) l
           (others_walk met.start keys n)) → Comes (λ p o. Comes WasFound p (after_others met who o)) l
           (further most (others_walk met.start keys) (other_by c))
-      on l (response.Answered (answer.Locked info)) more = by_mode l info info.mode more
-      on l (response.Answered (answer.Committed c)) more = settle_comes l (fate.Committed c)
-      on l (response.Answered answer.Missing) more = settle_comes l fate.Aborted
+      on l (Ok (answer.Locked info)) more = by_mode l info info.mode more
+      on l (Ok (answer.Committed c)) more = settle_comes l (fate.Committed c)
+      on l (Ok answer.Missing) more = settle_comes l fate.Aborted
       on l _ more = tt
 
   expired_comes : (h : History) (info : LockInfo) → Comes WasFound h (expired_walk met who info)
@@ -325,10 +319,10 @@ module _ (met : LockInfo) (who : Who) where
 
   primary_came : (h : History) (c : Response) → RespondsSo h (check_of met who false) c
       → Comes WasFound h (after_primary met who (primary_by who c))
-  primary_came h (response.Answered (answer.Locked info)) was =
+  primary_came h (Ok (answer.Locked info)) was =
       rests h info was (lets_pass who info.min) (is_async info.mode && is_over who info)
-  primary_came h (response.Answered (answer.Committed c)) was = settle_comes h (fate.Committed c)
-  primary_came h (response.Answered answer.RolledBack) was = settle_comes h fate.Aborted
+  primary_came h (Ok (answer.Committed c)) was = settle_comes h (fate.Committed c)
+  primary_came h (Ok answer.RolledBack) was = settle_comes h fate.Aborted
   primary_came h _ was = tt
 
   pub for_comes : (h : History) → Comes WasFound h (resolve_walk met who)
@@ -367,20 +361,20 @@ regions_come each on (suc count) n a h = then_ok (each n a) (in_regions each cou
     (λ l b. regions_come each on count (suc n) b l)
 
 raise_came : (h : History) (b : Body) (c : Response) → RespondsSo h b c → ByFault h (raised_by c)
-raise_came h b (response.Answered (answer.BelowSafePoint safe)) was = (b, was)
-raise_came h b (response.Answered (answer.FutureTimestamp last)) was = (b, was)
-raise_came h b (response.Answered answer.Raised) was = tt
+raise_came h b (Ok (answer.BelowSafePoint safe)) was = (b, was)
+raise_came h b (Ok (answer.FutureTimestamp last)) was = (b, was)
+raise_came h b (Ok answer.Raised) was = tt
 raise_came h b _ was = tt
 
 list_came : (h : History) (b : Body) (c : Response) → RespondsSo h b c → ByFault h (listed_by c)
-list_came h b (response.Answered (answer.Locks infos)) was = tt
+list_came h b (Ok (answer.Locks infos)) was = tt
 list_came h b _ was = tt
 
 collect_came : (h : History) (b : Body) (counts : Counts) (c : Response) → RespondsSo h b c
     → ByFault h (collected_by counts c)
-collect_came h b counts (response.Answered (answer.LocksRemain info)) was = (b, was)
-collect_came h b counts (response.Answered (answer.BelowSafePoint safe)) was = (b, was)
-collect_came h b counts (response.Answered (answer.Collected records values)) was = tt
+collect_came h b counts (Ok (answer.LocksRemain info)) was = (b, was)
+collect_came h b counts (Ok (answer.BelowSafePoint safe)) was = (b, was)
+collect_came h b counts (Ok (answer.Collected records values)) was = tt
 collect_came h b counts _ was = tt
 
 one_lock : (info : LockInfo) (who : Who) (more : Walk (Result (Unit {0}) Fault)) (h : History)

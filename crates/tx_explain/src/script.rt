@@ -67,7 +67,7 @@ fn play_plain<F: Families + Drop, M: Makes<F>>(
 {
     let mut written = Vec::new(alloc);
     let mut reader = script;
-    let end = simulate::<F, M, _, _>(alloc, make, &mut reader, &mut written)?;
+    let end = simulate::<F, M, _, _>(alloc, make, &mut reader, &mut written, &mut None)?;
     Ok((end, written))
 }
 
@@ -84,7 +84,7 @@ fn play_numbered<F: Families + Drop, M: Makes<F>>(
 {
     let mut written = Vec::new(alloc);
     let mut reader = script;
-    let end = simulate_numbered::<F, M, _, _>(alloc, make, &mut reader, &mut written)?;
+    let end = simulate_numbered::<F, M, _, _>(alloc, make, &mut reader, &mut written, &mut None)?;
     Ok((end, written))
 }
 

@@ -17,12 +17,10 @@ use Rattle.tx_core.proofs.seats.Beginnings.{begins_all, begins_more, extends_beg
 use Rattle.tx_core.proofs.seats.Staying.{among_on}
 use Rattle.tx_journal.specs.Known.{Known}
 use Rattle.tx_journal.specs.Replies.{Asked, Given}
-use Rattle.tx_transaction.specs.declared.state.Response.{Response}
-use Rattle.tx_transaction.specs.declared.state.Response.TheVariants as response
 use Rattle.tx_transaction.specs.declared.state.Miss.{Miss}
 use Rattle.tx_transaction.specs.declared.state.Miss.TheVariants as miss
 use Rattle.tx_transaction.specs.Sessions.{SessionState, scan_of, after_read}
-use Rattle.tx_transaction.specs.Returns.{read}
+use Rattle.tx_transaction.specs.Returns.{Response}
 use Rattle.tx_journal.specs.Senders.{Reached, IsSender}
 use Rattle.tx_client.specs.Learns.{response_by, response_of, Learns}
 use Rattle.tx_client.specs.Walks.{Walk, asks, grows, ends, then_walk, Sends, look_part, part_by, part_walk, enough, scan_after, scan_from, scan_walk, lesser, greater}
@@ -149,7 +147,7 @@ module _ {S : Type 0} (sends : S → Asked → Reached → S → Type 0) (bounds
 
     -- what follows of what came
     abbrev follows : Response → Walk (SessionState × Result Answer Miss)
-    follows c = scan_after (after_read s c) (part_by limit rows (read c)) on
+    follows c = scan_after (after_read s c) (part_by limit rows c) on
 
     joined : (then_known : Known) (mid : S) (found : List KeyValue) (t : SessionState) → t.start ≡ s.start
         → WasAnswered then_known.events asked (answer.Rows found)
@@ -173,12 +171,12 @@ module _ {S : Type 0} (sends : S → Asked → Reached → S → Type 0) (bounds
     ]
 
     by_answer : (then_known : Known) (mid : S) (x : Answer) → WasAnswered then_known.events asked x
-        → Sends sends bounds then_known mid (follows (response.Answered x)) (after, Ok (answer.Rows all)) b new
+        → Sends sends bounds then_known mid (follows (Ok x)) (after, Ok (answer.Rows all)) b new
         → PartGives
     by_answer then_known mid (answer.Rows found) told sent =
-        joined then_known mid found (after_read s (response.Answered (answer.Rows found))) refl told sent
+        joined then_known mid found (after_read s (Ok (answer.Rows found))) refl told sent
     by_answer then_known mid x told sent =
-        absurd (other_end after (after_read s (response.Answered x)) all x refl sent.0)
+        absurd (other_end after (after_read s (Ok x)) all x refl sent.0)
 
     by_reply : (then_known : Known) (mid : S) (o : Option Answer) → RespondsSo then_known.events asked (response_by o)
         → Sends sends bounds then_known mid (follows (response_by o)) (after, Ok (answer.Rows all)) b new → PartGives

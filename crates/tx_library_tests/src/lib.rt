@@ -1,7 +1,8 @@
 //! What stands on regions: the rows of the case tables over records, each kind of families, and a
 //! region that answers a session; requests that are planned while others are taken; stores that
-//! threads share; and scenarios of sessions, a resolver and a collector that scripts have no words
-//! for. All else of sessions are rows of `crates/examples/data/scripts.rows`.
+//! threads share; updates that end well, are tried again or stop; and scenarios of sessions, a
+//! resolver and a collector that scripts have no words for. All else of sessions are rows of
+//! `crates/examples/data/scripts.rows`.
 #![tactic(auto)]
 
 #[cfg(test)]
@@ -18,6 +19,8 @@ mod planning_tests;
 mod region_tests;
 #[cfg(test)]
 mod scenarios;
+#[cfg(test)]
+mod simple_tests;
 #[cfg(test)]
 mod store_tests;
 #[cfg(test)]

@@ -1,6 +1,6 @@
 //! What calls answer, in a word and a number. Keys and values are single digits here.
 use crate::calls::Came;
-use tx_client::{Miss, Response, Status, WaitCause};
+use tx_client::{Miss, Status, WaitCause};
 use tx_core::{Answer, Outcome, UnknownCause};
 use tx_resolve::Counts;
 use tx_types::{Fault, KeyValues, Ts};
@@ -80,11 +80,10 @@ fn by_phase(response: Result<Option<Answer>, Miss>) -> Short {
 }
 
 /// What comes of a request.
-pub fn by_response(response: Response) -> Short {
+pub fn by_response(response: Result<Answer, Miss>) -> Short {
     match response {
-        Response::Lost => ("lost", 0),
-        Response::OutOfMemory => ("E12", 0),
-        Response::Answered(answer) => {
+        Err(miss) => by_miss(miss),
+        Ok(answer) => {
             let short = by_answer(&answer);
             drop(answer);
             short

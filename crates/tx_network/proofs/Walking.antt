@@ -9,8 +9,8 @@ use Rattle.tx_core.proofs.seats.Beginnings.{begins_length, begins_whole}
 use Rattle.tx_core.proofs.seats.Parts.{part_extends}
 use Rattle.tx_journal.specs.Known.{Known}
 use Rattle.tx_journal.specs.Replies.{Asked, Given}
-use Rattle.tx_transaction.specs.declared.state.Response.{Response}
-use Rattle.tx_transaction.specs.declared.state.Response.TheVariants as response
+use Rattle.tx_transaction.specs.Returns.{Response}
+use Rattle.tx_transaction.specs.declared.state.Miss.TheVariants as miss
 use Rattle.tx_journal.specs.Senders.{Reached, IsHeld, IsSender}
 use Rattle.tx_client.specs.Learns.{response_by, response_of, Learns}
 use Rattle.tx_client.specs.Walks.{Walk, asks, grows, ends, Sends}
@@ -178,7 +178,7 @@ module _ (bounds : List Key) (from mid : NetworkParts) (q : Asked) (k then_known
 
   -- no region took it
   untaken : (g : Given) → IsUntaken from mid q g → IsSame k then_known
-      → (response_by g.answer ≡ response.OutOfMemory → network_state mid ≡ network_state from → Exactly (Ok g))
+      → (response_by g.answer ≡ Err miss.Fault → network_state mid ≡ network_state from → Exactly (Ok g))
       → Comes k from mid then_known (Exactly (Ok g))
   untaken g p same on = record {
     made = 0;

@@ -31,8 +31,8 @@ use Rattle.tx_trace.specs.Traces.{Noted, Traces, Adds}
 use Rattle.tx_journal.specs.Replies.{Asked, Given}
 use Rattle.tx_steps.specs.declared.delivery.Delivery.{Delivery}
 use Rattle.tx_steps.specs.declared.delivery.Delivery.TheVariants as deliveries
-use Rattle.tx_transaction.specs.declared.state.Response.{Response}
-use Rattle.tx_transaction.specs.declared.state.Response.TheVariants as response
+use Rattle.tx_transaction.specs.Returns.{Response}
+use Rattle.tx_transaction.specs.declared.state.Miss.TheVariants as miss
 use Rattle.tx_journal.specs.Senders.{Reached, IsHeld}
 use Rattle.tx_client.specs.Walks.{Walk, asks, grows, ends}
 use Rattle.tx_steps.specs.Steps.{Text}
@@ -299,9 +299,9 @@ is_crowded s _ = false
 
 -- it is held, and not taken; or memory for that was refused
 abbrev pub MetHold : List ℕ → NetworkState → Body → Response → NetworkState → Type 0
-MetHold name s body response.Lost next = next ≡ holding s name body
-MetHold name s body response.OutOfMemory next = next ≡ s
-MetHold name s body (response.Answered a) next = ⊥
+MetHold name s body (Err miss.Lost) next = next ≡ holding s name body
+MetHold name s body (Err miss.Fault) next = next ≡ s
+MetHold name s body (Ok a) next = ⊥
 
 module _ (bounds : List Key) where
   -- the region answers by the case tables from what its events left, with the least minimum
@@ -315,28 +315,28 @@ module _ (bounds : List Key) where
 
   -- what came of a request that a region took, and what it changed
   abbrev pub Met : NetworkState → Body → Response → NetworkState → Type 0
-  Met s body response.Lost next = ⊥
-  Met s body response.OutOfMemory next = (takes_memory body ≡ true) × (next ≡ s)
-  Met s body (response.Answered a) next = MayAnswerSo s body a × (next ≡ taken bounds s body a)
+  Met s body (Err miss.Lost) next = ⊥
+  Met s body (Err miss.Fault) next = (takes_memory body ≡ true) × (next ≡ s)
+  Met s body (Ok a) next = MayAnswerSo s body a × (next ≡ taken bounds s body a)
 
   -- its reply was lost
   abbrev pub MetLost : NetworkState → Body → Response → NetworkState → Type 0
-  MetLost s body response.Lost next = (c : Response) × Met s body c next
+  MetLost s body (Err miss.Lost) next = (c : Response) × Met s body c next
   MetLost s body _ next = ⊥
 
   -- it was taken twice; or memory for a copy was refused, and it was not taken
   abbrev pub MetTwice : NetworkState → Body → Response → NetworkState → Type 0
-  MetTwice s body c next = ((c ≡ response.OutOfMemory) × (next ≡ s))
+  MetTwice s body c next = ((c ≡ Err miss.Fault) × (next ≡ s))
       ⊎ ((first : Response) × (mid : NetworkState) × Met s body first mid × Met mid body c next)
 
   -- it was lost
   abbrev pub LostAll : NetworkState → Response → NetworkState → Type 0
-  LostAll s response.Lost next = next ≡ s
+  LostAll s (Err miss.Lost) next = next ≡ s
   LostAll s _ next = ⊥
 
   -- what came of a request by its delivery, and what it changed
   abbrev pub Reach : Option (Delivery Text) → NetworkState → Body → Response → NetworkState → Type 0
-  Reach None s body c next = (c ≡ response.OutOfMemory) × (next ≡ s)
+  Reach None s body c next = (c ≡ Err miss.Fault) × (next ≡ s)
   Reach (Some deliveries.Taken) s body c next = Met s body c next
   Reach (Some deliveries.Lost) s body c next = LostAll s c next
   Reach (Some deliveries.Unanswered) s body c next = MetLost s body c next

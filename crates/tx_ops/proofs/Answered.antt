@@ -17,10 +17,8 @@ use Rattle.tx_transaction.specs.declared.state.Miss.{Miss}
 use Rattle.tx_transaction.specs.declared.state.Miss.TheVariants as miss
 use Rattle.tx_transaction.specs.declared.state.Phase.{Phase}
 use Rattle.tx_transaction.specs.declared.state.Phase.TheVariants as phase
-use Rattle.tx_transaction.specs.declared.state.Response.{Response}
-use Rattle.tx_transaction.specs.declared.state.Response.TheVariants as response
 use Rattle.tx_transaction.specs.Buffers.{buffered}
-use Rattle.tx_transaction.specs.Returns.{returned, read}
+use Rattle.tx_transaction.specs.Returns.{Response, returned}
 use Rattle.tx_transaction.specs.Sessions.{SessionState, is_declared, can_commit, can_abort, has_primary, due_prewrite, due_commit, due_abort, after_read}
 use Rattle.tx_client.specs.Learns.{response_of}
 use Rattle.tx_client.specs.Walks.{Walk, ends, then_walk, Sends, due_walk, heartbeat_walk, get_by, get_walk, part_by, enough, part_walk, scan_after, scan_from, scan_walk, greater, lesser}
@@ -33,28 +31,18 @@ use Rattle.tx_ops.specs.Calls.{Said, read_reply, sent_reply, call_walk}
 use Rattle.tx_ops.proofs.Ending.{AllEnds, sends_end, read_ends, allowed_ends}
 
 -- a reply came
-abbrev pub Came : Response → Type 0
-Came response.Lost = ⊥
+abbrev pub Came : {T : Type 0} → Result T Miss → Type 0
+Came (Err miss.Lost) = ⊥
 Came _ = Unit {0}
-
--- what a call comes to says so
-abbrev HasCome : {T : Type 0} → Result T Miss → Type 0
-HasCome (Err miss.Lost) = ⊥
-HasCome _ = Unit {0}
 
 -- every end of a walk does
 abbrev AllCome : {T : Type 0} → Walk (SessionState × Result T Miss) → Type 0
-AllCome {T} w = AllEnds Came (λ (x : SessionState × Result T Miss). HasCome x.1) w
+AllCome {T} w = AllEnds Came (λ (x : SessionState × Result T Miss). Came x.1) w
 
-returned_comes : (c : Response) → Came c → HasCome (returned c)
-returned_comes response.Lost came = came
-returned_comes response.OutOfMemory came = tt
-returned_comes (response.Answered a) came = tt
-
-read_comes : (c : Response) → Came c → HasCome (read c)
-read_comes response.Lost came = came
-read_comes response.OutOfMemory came = tt
-read_comes (response.Answered a) came = tt
+returned_comes : (c : Response) → Came c → Came (returned c)
+returned_comes (Err miss.Lost) came = came
+returned_comes (Err miss.Fault) came = tt
+returned_comes (Ok a) came = tt
 
 module _ (s : SessionState) where
   due_comes : (x : Phase) (o : Option Due) → AllCome (due_walk s x o)
@@ -68,8 +56,8 @@ module _ (s : SessionState) where
   get_comes k (Some (mutation.Put v)) = (tt, tt)
   get_comes k (Some (mutation.Insert v)) = (tt, tt)
   get_comes k (Some mutation.Delete) = tt
-  get_comes k (Some mutation.Lock) = (read_comes, tt)
-  get_comes k None = (read_comes, tt)
+  get_comes k (Some mutation.Lock) = ((λ c came. came), tt)
+  get_comes k None = ((λ c came. came), tt)
 
 -- ---- a scan
 
@@ -81,7 +69,7 @@ abbrev GoesOn : OnRows → Type 0
 GoesOn on = (t : SessionState) (rows : List KeyValue) → AllCome (on t rows)
 
 after_comes : (t : SessionState) (limit : ℕ) (rows : List KeyValue) (r : Result Answer Miss) (on : OnRows) → GoesOn on
-    → HasCome r → AllCome (scan_after t (part_by limit rows r) on)
+    → Came r → AllCome (scan_after t (part_by limit rows r) on)
 after_comes t limit rows (Ok (answer.Rows found)) on all come = by (nat_lt (length (rows ++ found)) limit) refl
   where
     by : (b : Bool) → nat_lt (length (rows ++ found)) limit ≡ b
@@ -98,7 +86,7 @@ part_comes t low high limit rows on all = by (key_lt low high) refl
     by : (b : Bool) → key_lt low high ≡ b
         → AllCome (then_walk (part_walk t low high limit rows) (λ x. scan_after x.0 x.1 on))
     by true e = rw e (
-      (λ c came. after_comes (after_read t c) limit rows (read c) on all (read_comes c came)),
+      (λ c came. after_comes (after_read t c) limit rows c on all came),
       tt,
     )
     by false e = rw e (all t rows, tt)
@@ -117,12 +105,12 @@ abbrev pub IsAnswered : ScriptReply → Type 0
 IsAnswered reply.Lost = ⊥
 IsAnswered _ = Unit {0}
 
-read_answered : (r : Result Answer Miss) → HasCome r → IsAnswered (read_reply r)
+read_answered : (r : Result Answer Miss) → Came r → IsAnswered (read_reply r)
 read_answered (Ok a) come = tt
 read_answered (Err miss.Lost) come = come
 read_answered (Err miss.Fault) come = tt
 
-sent_answered : (r : Result (Option Answer) Miss) → HasCome r → IsAnswered (sent_reply r)
+sent_answered : (r : Result (Option Answer) Miss) → Came r → IsAnswered (sent_reply r)
 sent_answered (Ok None) come = tt
 sent_answered (Ok (Some a)) come = tt
 sent_answered (Err miss.Lost) come = come
@@ -132,18 +120,18 @@ abbrev Answers : Walk (SessionState × Said) → Type 0
 Answers w = AllEnds Came (λ (x : SessionState × Said). IfOk x.1 IsAnswered) w
 
 call_comes : (bounds : List Key) (s : SessionState) (what : Call Text) → Answers (call_walk bounds s what)
-call_comes bounds s (call.Get key) = read_ends Came IsAnswered HasCome HasCome read_answered sent_answered tt tt
+call_comes bounds s (call.Get key) = read_ends Came IsAnswered Came Came read_answered sent_answered tt tt
     (is_key key) s (get_walk s key) (get_comes s key (buffered s.buffer key))
 call_comes bounds s (call.Scan from to limit) =
-    read_ends Came IsAnswered HasCome HasCome read_answered sent_answered tt tt (is_key from && is_key to) s
+    read_ends Came IsAnswered Came Came read_answered sent_answered tt tt (is_key from && is_key to) s
     (scan_walk s bounds from to limit) (scan_comes from to limit from bounds s [])
-call_comes bounds s call.Prewrite = allowed_ends Came IsAnswered HasCome HasCome read_answered sent_answered tt tt
+call_comes bounds s call.Prewrite = allowed_ends Came IsAnswered Came Came read_answered sent_answered tt tt
     (is_declared s) s (due_walk s phase.Prewrite (due_prewrite s)) (due_comes s phase.Prewrite (due_prewrite s))
-call_comes bounds s call.Commit = allowed_ends Came IsAnswered HasCome HasCome read_answered sent_answered tt tt
+call_comes bounds s call.Commit = allowed_ends Came IsAnswered Came Came read_answered sent_answered tt tt
     (can_commit s) s (due_walk s phase.Commit (due_commit s)) (due_comes s phase.Commit (due_commit s))
-call_comes bounds s call.Abort = allowed_ends Came IsAnswered HasCome HasCome read_answered sent_answered tt tt
+call_comes bounds s call.Abort = allowed_ends Came IsAnswered Came Came read_answered sent_answered tt tt
     (can_abort s) s (due_walk s phase.Abort (due_abort s)) (due_comes s phase.Abort (due_abort s))
-call_comes bounds s (call.Heartbeat ttl) = allowed_ends Came IsAnswered HasCome HasCome read_answered sent_answered tt
+call_comes bounds s (call.Heartbeat ttl) = allowed_ends Came IsAnswered Came Came read_answered sent_answered tt
     tt (has_primary s) s (heartbeat_walk s ttl) (heartbeat_comes s ttl)
 
 -- a call over a way that loses nothing is never told that a reply was lost

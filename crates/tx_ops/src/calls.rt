@@ -27,8 +27,8 @@ fn missed(miss: Miss) -> ScriptReply
     }
 }
 
-// What is told of a read.
-fn read(answered: Result<Answer, Miss>) -> ScriptReply
+/// What is told of a read.
+pub fn reply_to(answered: Result<Answer, Miss>) -> ScriptReply
     ensures { result ≡ read_reply answered }
 {
     match answered {
@@ -72,7 +72,7 @@ fn get<J: JournalId, S: Sender<Request<J>, Reply<J>>>(
     let Ok(key) = Key::new(alloc, key.as_bytes()) else {
         return ScriptReply::OutOfMemory;
     };
-    read(session.get(&key, sender))
+    reply_to(session.get(&key, sender))
 }
 
 fn are_keys(from: &str, to: &str) -> bool
@@ -112,7 +112,7 @@ fn scan<J: JournalId, S: Sender<Request<J>, Reply<J>>>(
     let Ok((from, to)) = range(alloc, from, to) else {
         return ScriptReply::OutOfMemory;
     };
-    read(session.scan(alloc, &from, &to, limit, sender))
+    reply_to(session.scan(alloc, &from, &to, limit, sender))
 }
 
 // Sends the prewrite that is due. `Order` before it declared.

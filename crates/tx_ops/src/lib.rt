@@ -9,4 +9,4 @@ mod edits;
 mod entries;
 
 pub use acts::act;
-pub use calls::send;
+pub use calls::{reply_to, send};

@@ -14,8 +14,8 @@ use Rattle.tx_plan.specs.declared.answer.Answer.{Answer}
 use Rattle.tx_cells.specs.declared.copies.KeyVersions.{KeyVersions}
 use Rattle.tx_core.specs.declared.event.Outcome.{Outcome}
 use Rattle.tx_core.specs.Histories.{last}
-use Rattle.tx_transaction.specs.declared.state.Response.{Response}
-use Rattle.tx_transaction.specs.declared.state.Response.TheVariants as response
+use Rattle.tx_transaction.specs.Returns.{Response}
+use Rattle.tx_transaction.specs.declared.state.Miss.TheVariants as miss
 use Rattle.tx_transaction.specs.Buffers.{Entries, inserted, touched, put_over, buffered, locked, is_full}
 use Rattle.tx_transaction.specs.Sessions.{SessionState, is_declared, exceeds, can_draw, finish_of, notes_one, with_passed}
 use Rattle.tx_types.specs.declared.mutation.Mutation.TheVariants as mutation
@@ -40,8 +40,8 @@ use Rattle.tx_reply.specs.declared.reply.ScriptReply.TheVariants as reply
 use Rattle.tx_network.specs.Networks.{taken, holding, takes_memory, may_go}
 use Rattle.tx_ops.specs.Edits.{Edit, is_refused, later_of, grown, changes, puts, inserts, inserts_by, deletes, locks, is_value}
 use Rattle.tx_ops.specs.Edits as edit
-use Rattle.tx_ops.specs.Calls.{Said, call_walk}
-use Rattle.tx_engine.specs.Semantics.{EngineState, Transition, goes, inquires, shows, stops, calls, at_network, began, drew, placed, gone, with_session, answers, asked, sent, runs, came, first_free, live_at, is_too_many, edited, edits, sends, sends_by, delivered_by, delivers, finishes_by, leaves, begins_at, in_session, turn, learns, learnt, waits, resolves_by, collected_as, ticked}
+use Rattle.tx_ops.specs.Calls.{Said, read_reply, call_walk}
+use Rattle.tx_engine.specs.Semantics.{EngineState, Transition, goes, inquires, shows, stops, calls, at_network, began, drew, placed, gone, with_session, answers, asked, sent, runs, came, first_free, live_at, is_too_many, edited, edits, sends, sends_by, delivers, finishes_by, leaves, begins_at, in_session, turn, learns, learnt, waits, resolves_by, collected_as, ticked}
 use Rattle.tx_engine.specs.Plays.{Leads}
 use Rattle.tx_script.specs.Play.{step_turn, said_turn, line_turn}
 
@@ -81,18 +81,18 @@ module _ (bounds : List Key) (Goes Also : EngineState → ScriptReply → List B
       → ((c : Response) (next : EngineState) → Carries (on c next))
       → Carries (λ left. answers bounds engine body on left)
   answers_carry engine body on x left (a, answers, leads) =
-      let z = x (response.Answered a) (at_network engine (taken bounds engine.network body a)) left leads in
+      let z = x (Ok a) (at_network engine (taken bounds engine.network body a)) left leads in
       (z.0, (a, answers, z.1))
 
   asked_carries : (engine : EngineState) (body : Body) (on : Response → EngineState → List Bool → Transition)
       → ((c : Response) (next : EngineState) → Carries (on c next))
       → Carries (λ refused. asked bounds refused engine body on)
   asked_carries engine body on x = either (takes_memory body)
-      (λ refused. cond (is_refused refused) (on response.OutOfMemory engine (later_of refused))
+      (λ refused. cond (is_refused refused) (on (Err miss.Fault) engine (later_of refused))
       (answers bounds engine body on (later_of refused)))
       (λ refused. answers bounds engine body on refused)
-      (refusable (on response.OutOfMemory engine) (λ left. answers bounds engine body on left)
-      (x response.OutOfMemory engine) (answers_carry engine body on x))
+      (refusable (on (Err miss.Fault) engine) (λ left. answers bounds engine body on left)
+      (x (Err miss.Fault) engine) (answers_carry engine body on x))
       (answers_carry engine body on x)
 
   sent_carries : (delivery : Delivery Text) (engine : EngineState) (body : Body)
@@ -100,17 +100,17 @@ module _ (bounds : List Key) (Goes Also : EngineState → ScriptReply → List B
       → ((c : Response) (next : EngineState) → Carries (on c next))
       → Carries (λ refused. sent bounds delivery refused engine body on)
   sent_carries deliveries.Taken engine body on x = asked_carries engine body on x
-  sent_carries deliveries.Lost engine body on x = x response.Lost engine
-  sent_carries deliveries.Unanswered engine body on x = asked_carries engine body (λ c. on response.Lost)
-      (λ c. x response.Lost)
-  sent_carries deliveries.Repeated engine body on x = refusable (on response.OutOfMemory engine)
+  sent_carries deliveries.Lost engine body on x = x (Err miss.Lost) engine
+  sent_carries deliveries.Unanswered engine body on x = asked_carries engine body (λ c. on (Err miss.Lost))
+      (λ c. x (Err miss.Lost))
+  sent_carries deliveries.Repeated engine body on x = refusable (on (Err miss.Fault) engine)
       (λ left. asked bounds left engine body (λ c next rest. asked bounds rest next body on))
-      (x response.OutOfMemory engine)
+      (x (Err miss.Fault) engine)
       (asked_carries engine body (λ c next rest. asked bounds rest next body on)
       (λ c next. asked_carries next body on x))
-  sent_carries (deliveries.Held name) engine body on x = refusable (on response.OutOfMemory engine)
-      (on response.Lost (at_network engine (holding engine.network name body)))
-      (x response.OutOfMemory engine) (x response.Lost (at_network engine (holding engine.network name body)))
+  sent_carries (deliveries.Held name) engine body on x = refusable (on (Err miss.Fault) engine)
+      (on (Err miss.Lost) (at_network engine (holding engine.network name body)))
+      (x (Err miss.Fault) engine) (x (Err miss.Lost) (at_network engine (holding engine.network name body)))
 
   runs_carry : {R : Type 0} (delivery : Delivery Text) (engine : EngineState) (w : Walk R)
       (on : R → EngineState → List Bool → Transition)
@@ -247,9 +247,9 @@ module _ (bounds : List Key) (Goes Also : EngineState → ScriptReply → List B
     delivers_carry : (o : Option Body) → Carries (λ refused. delivers bounds refused engine o)
     delivers_carry None = stopped cause.Name
     delivers_carry (Some body) = calls_carry engine
-        (λ left. asked bounds left engine body (λ c next rest. goes next (delivered_by c) rest))
-        (asked_carries engine body (λ c next rest. goes next (delivered_by c) rest)
-        (λ c next. says next (delivered_by c)))
+        (λ left. asked bounds left engine body (λ c next rest. goes next (read_reply c) rest))
+        (asked_carries engine body (λ c next rest. goes next (read_reply c) rest)
+        (λ c next. says next (read_reply c)))
 
     acts_carry : (name : Text) (what : Op Text) → Carries (λ refused. turn bounds refused (step.Act name what) engine)
     acts_carry name op.Finish = session_carries (live_at engine name)
@@ -273,10 +273,10 @@ module _ (bounds : List Key) (Goes Also : EngineState → ScriptReply → List B
         (λ left k s. edits left engine k s bounds op.Draw) (λ k s. edits_carry k s op.Draw)
 
     looks_carry : (key : List ℕ) (body : Body) → Carries (λ refused. cond (not (is_key key)) (goes engine reply.KeyLength refused)
-        (calls refused engine (λ left. asked bounds left engine body (λ c next rest. goes next (delivered_by c) rest))))
+        (calls refused engine (λ left. asked bounds left engine body (λ c next rest. goes next (read_reply c) rest))))
     looks_carry key body = either (not (is_key key)) (λ left. goes engine reply.KeyLength left)
         (λ refused. calls refused engine
-        (λ left. asked bounds left engine body (λ c next rest. goes next (delivered_by c) rest)))
+        (λ left. asked bounds left engine body (λ c next rest. goes next (read_reply c) rest)))
         (says engine reply.KeyLength) (delivers_carry (Some body))
 
     shows_carry : (key : List ℕ) → Carries (λ left. shows engine.network key (λ copy. goes engine (reply.Versions copy) left))

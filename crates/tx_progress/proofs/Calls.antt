@@ -18,10 +18,8 @@ use Rattle.tx_plan.specs.declared.answer.Answer.TheVariants as answer
 use Rattle.tx_transaction.specs.declared.state.Due.{Due}
 use Rattle.tx_transaction.specs.declared.state.Miss.{Miss}
 use Rattle.tx_transaction.specs.declared.state.Phase.{Phase}
-use Rattle.tx_transaction.specs.declared.state.Response.{Response}
-use Rattle.tx_transaction.specs.declared.state.Response.TheVariants as response
 use Rattle.tx_transaction.specs.Buffers.{buffered}
-use Rattle.tx_transaction.specs.Returns.{read}
+use Rattle.tx_transaction.specs.Returns.{Response}
 use Rattle.tx_transaction.specs.Sessions.{SessionState, after_read}
 use Rattle.tx_client.specs.declared.resolved.Status.{Status}
 use Rattle.tx_client.specs.declared.resolved.Status.TheVariants as status
@@ -61,8 +59,8 @@ get_few s k = get_few_by s k (buffered s.buffer k)
 answer_few : (s : SessionState) (limit : ℕ) (rows : List KeyValue) (n : ℕ)
     (on : SessionState → List KeyValue → Walk (SessionState × Result Answer Miss))
     → ((t : SessionState) (all : List KeyValue) → AtMost AnyResponse n (on t all)) → (c : Response)
-    → AtMost AnyResponse (n + 1 - 1) (scan_after (after_read s c) (part_by limit rows (read c)) on)
-answer_few s limit rows n on few (response.Answered (answer.Rows found)) =
+    → AtMost AnyResponse (n + 1 - 1) (scan_after (after_read s c) (part_by limit rows c) on)
+answer_few s limit rows n on few (Ok (answer.Rows found)) =
     elim (cases_Bool (nat_lt (length (rows ++ found)) limit)) [
       | inl e ↦ rw e (at_most AnyResponse n (n + 1 - 1) (on _ _) (omega arith) (few _ _))
       | inr e ↦ rw e tt
@@ -109,9 +107,9 @@ module _ (locks most : ℕ) where
 
   after_forced_few : (met : LockInfo) (who : _) (c : Response)
       → AtMost (Lists locks most) 1 (after_forced met (primary_by who c))
-  after_forced_few met who (response.Answered (answer.Locked info)) = rests_forced met info (rests_by who info)
-  after_forced_few met who (response.Answered (answer.Committed c)) = settle_few met (fate.Committed c) 1 (omega arith)
-  after_forced_few met who (response.Answered answer.RolledBack) = settle_few met fate.Aborted 1 (omega arith)
+  after_forced_few met who (Ok (answer.Locked info)) = rests_forced met info (rests_by who info)
+  after_forced_few met who (Ok (answer.Committed c)) = settle_few met (fate.Committed c) 1 (omega arith)
+  after_forced_few met who (Ok answer.RolledBack) = settle_few met fate.Aborted 1 (omega arith)
   after_forced_few met who _ = tt
 
   forced_few : (met : LockInfo) (who : _) (n : ℕ) → 2 ≤ n → AtMost (Lists locks most) n (forced_walk met who)
@@ -131,18 +129,18 @@ module _ (locks most : ℕ) where
         → ((least : ℕ) → AtMost (Lists locks most) n (then_walk (more least) (after_others met who)))
         → (m : Mode) → info.mode ≡ m
         → AtMost (Lists locks most) n
-        (then_walk (further least more (other_by (response.Answered (answer.Locked info)))) (after_others met who))
+        (then_walk (further least more (other_by (Ok (answer.Locked info)))) (after_others met who))
     mode_few who info least more few TwoPhase e = rw e (forced_few met who n le)
     mode_few who info least more few Async e = rw e (few _)
 
     other_few : (who : _) (least : ℕ) (more : ℕ → Walk _)
         → ((least : ℕ) → AtMost (Lists locks most) n (then_walk (more least) (after_others met who))) → (c : Response)
         → AtMost (Lists locks most) n (then_walk (further least more (other_by c)) (after_others met who))
-    other_few who least more few (response.Answered (answer.Locked info)) =
+    other_few who least more few (Ok (answer.Locked info)) =
         mode_few who info least more few info.mode refl
-    other_few who least more few (response.Answered (answer.Committed c)) =
+    other_few who least more few (Ok (answer.Committed c)) =
         settle_few met (fate.Committed c) n (omega (arith, le))
-    other_few who least more few (response.Answered answer.Missing) = settle_few met fate.Aborted n (omega (arith, le))
+    other_few who least more few (Ok answer.Missing) = settle_few met fate.Aborted n (omega (arith, le))
     other_few who least more few _ = tt
 
   others_few : (met : LockInfo) (who : _) (keys : List Key) (least n : ℕ) → length keys + 2 ≤ n
@@ -181,11 +179,11 @@ module _ (locks most : ℕ) where
 
   pub after_primary_few : (met : LockInfo) (who : _) (c : Response) → Lists locks most c
       → AtMost (Lists locks most) (most + 2) (after_primary met who (primary_by who c))
-  after_primary_few met who (response.Answered (answer.Locked info)) few =
+  after_primary_few met who (Ok (answer.Locked info)) few =
       primary_few met who info few info.mode refl
-  after_primary_few met who (response.Answered (answer.Committed c)) few =
+  after_primary_few met who (Ok (answer.Committed c)) few =
       settle_few met (fate.Committed c) (most + 2) (omega arith)
-  after_primary_few met who (response.Answered answer.RolledBack) few =
+  after_primary_few met who (Ok answer.RolledBack) few =
       settle_few met fate.Aborted (most + 2) (omega arith)
   after_primary_few met who _ few = tt
 
@@ -248,7 +246,7 @@ module _ (locks most : ℕ) where
 
   listed_few : (n : ℕ) → locks * (most + 3) ≤ n → (c : Response) → Lists locks most c
       → AtMost (Lists locks most) n (on_ok locks_walk (listed_by c))
-  listed_few n le (response.Answered (answer.Locks infos)) few =
+  listed_few n le (Ok (answer.Locks infos)) few =
       at_most (Lists locks most) (locks * (most + 3)) n (locks_walk infos) le (locks_few infos locks few)
   listed_few n le _ few = tt
 

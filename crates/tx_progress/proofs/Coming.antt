@@ -28,7 +28,6 @@ use Rattle.tx_core.proofs.seats.Staying.{last_on, among_on}
 use Rattle.tx_journal.specs.Known.{Known}
 use Rattle.tx_journal.specs.Replies.{Asked, Given, IsTold}
 use Rattle.tx_journal.specs.Senders.{Reached}
-use Rattle.tx_transaction.specs.declared.state.Response.TheVariants as response
 use Rattle.tx_client.specs.Facts.{WasAnswered}
 use Rattle.tx_client.specs.Learns.{response_by, response_of, Learns}
 
@@ -77,11 +76,11 @@ came_told bounds g a new begins told =
 module _ {S : Type 0} (sends : S → Asked → Reached → S → Type 0) (bounds : List Key) (asked : AnswersAsked sends) where
   pub came : (k new : Known) (a b : S) (q : Body) (reached : Reached) (x : Answer)
       → sends a (record { by = k.events; body = q }) reached b → Learns bounds k reached new
-      → response_of reached ≡ response.Answered x → Came k.events new.events q x
+      → response_of reached ≡ Ok x → Came k.events new.events q x
   came k new a b q (Err l) x sent learns e = absurd (cc (e))
   came k new a b q (Ok g) x sent learns e = go g.answer learns.4.told e
     where
-      go : (o : Option Answer) → IfSome o (IsTold bounds g) → response_by o ≡ response.Answered x
+      go : (o : Option Answer) → IfSome o (IsTold bounds g) → response_by o ≡ Ok x
           → Came k.events new.events q x
       go None told e = absurd (cc (e))
       go (Some y) told e =

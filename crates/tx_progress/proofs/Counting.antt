@@ -1,6 +1,6 @@
 -- How walks that follow one another add up.
 use Rattle.std.proofs.Common.{◌≤◌, ◌+◌, ◌-◌, ℕ, arith}
-use Rattle.tx_transaction.specs.declared.state.Response.{Response}
+use Rattle.tx_transaction.specs.Returns.{Response}
 use Rattle.tx_client.specs.Walks.{Walk, asks, grows, ends, then_walk}
 use Rattle.tx_progress.specs.Requests.{AtMost}
 

@@ -1,5 +1,5 @@
 -- What a resolver comes to where its requests are served.
-use Rattle.std.proofs.Common.{◌≡◌, ◌⊎◌, ◌≤◌, ◌<◌, ◌+◌, ◌&&◌, ℕ, nat_lt, inl, inr, Bool, true, false, cond, List, [], ◌∷◌, Option, Some, None, refl, sym, ap, subst, ◌∙◌, arith}
+use Rattle.std.proofs.Common.{◌≡◌, ◌⊎◌, ◌≤◌, ◌<◌, ◌+◌, ◌&&◌, ℕ, nat_lt, inl, inr, Bool, true, false, cond, List, [], ◌∷◌, Option, Some, None, Ok, Err, refl, sym, ap, subst, ◌∙◌, arith}
 use Rattle.std.specs.Prelude.{Contains}
 use Rattle.std.proofs.lemmas.Bool.{ltb-true, ltb-false, lt-ltb}
 use Rattle.std.proofs.lemmas.List.Elements.{Contains-push}
@@ -19,8 +19,7 @@ use Rattle.tx_core.specs.Laws.{WasToldOf}
 use Rattle.tx_journal.specs.Known.{Known}
 use Rattle.tx_journal.specs.Replies.{Asked}
 use Rattle.tx_journal.specs.Senders.{Reached}
-use Rattle.tx_transaction.specs.declared.state.Response.{Response}
-use Rattle.tx_transaction.specs.declared.state.Response.TheVariants as response
+use Rattle.tx_transaction.specs.Returns.{Response}
 use Rattle.tx_client.specs.declared.resolved.Status.{Status}
 use Rattle.tx_client.specs.declared.resolved.Status.TheVariants as status
 use Rattle.tx_client.specs.declared.resolved.WaitCause.TheVariants as cause
@@ -49,8 +48,8 @@ told_of h b info was = record {
 }
 
 -- an answer that is served is not refused below the safe point
-not_below : (a : Answer) → Below a → IsServed (response.Answered a) → ⊥
-not_below a (safe, e) served = subst (λ x. IsServed (response.Answered x)) e served
+not_below : (a : Answer) → Below a → IsServed (Ok a) → ⊥
+not_below a (safe, e) served = subst (λ x. IsServed (Ok x)) e served
 
 module _ {S : Type 0} (sends : S → Asked → Reached → S → Type 0) (bounds : List Key) (asked : AnswersAsked sends) (met :
     LockInfo) (at now : ℕ) where
@@ -67,13 +66,12 @@ module _ {S : Type 0} (sends : S → Asked → Reached → S → Type 0) (bounds
   fate_sure h fate.Aborted was = was
 
   settled_sure : (by new : History) (end : Fate) (c : Response)
-      → ((x : Answer) → c ≡ response.Answered x → Came by new (settle_of met end) x) → IsServed c
+      → ((x : Answer) → c ≡ Ok x → Came by new (settle_of met end) x) → IsServed c
       → IsSettled new met at (settled_by end c)
-  settled_sure by new end response.Lost came served = absurd served
-  settled_sure by new end response.OutOfMemory came served = absurd served
-  settled_sure by new end (response.Answered a) came served =
+  settled_sure by new end (Err why) came served = absurd served
+  settled_sure by new end (Ok a) came served =
       elim (resolves by new met.key met.start end a (came a refl)) [
-        | inl e ↦ subst (λ x. IsSettled new met at (settled_by end (response.Answered x))) (sym e)
+        | inl e ↦ subst (λ x. IsSettled new met at (settled_by end (Ok x))) (sym e)
             (fate_sure new end (subst (WasAnswered new (settle_of met end)) e (came a refl).was))
         | inr below ↦ absurd (not_below a below served)
       ]
@@ -103,7 +101,7 @@ module _ {S : Type 0} (sends : S → Asked → Reached → S → Type 0) (bounds
 
     -- where the read is at a number that was seen, a check that is served is answered so
     check_served : (by new : History) (forced : Bool) (a : Answer) → Came by new (check_of met who forced) a
-        → at ≤ last by → IsServed (response.Answered a) → Checks (check_body forced) a
+        → at ≤ last by → IsServed (Ok a) → Checks (check_body forced) a
     check_served by new forced a was le served =
         elim (checks_told by new (check_body forced) a was (omega (arith, caller, le)) over) [
           | inl below ↦ absurd (not_below a below served)
@@ -123,15 +121,15 @@ module _ {S : Type 0} (sends : S → Asked → Reached → S → Type 0) (bounds
     -- ---- a check that was forced
 
     forced_by : (k new : Known) (from to : S) (found : Status) (a : Answer) → Checks (check_body true) a
-        → Sure k from (after_forced met (primary_by who (response.Answered a))) new to found
+        → Sure k from (after_forced met (primary_by who (Ok a))) new to found
     forced_by k new from to found a (inl e) =
-        subst (λ x. Sure k from (after_forced met (primary_by who (response.Answered x))) new to found) (sym e)
+        subst (λ x. Sure k from (after_forced met (primary_by who (Ok x))) new to found) (sym e)
         (settle_sure fate.Aborted k new from to found)
     forced_by k new from to found a (inr (inl (c, e))) =
-        subst (λ x. Sure k from (after_forced met (primary_by who (response.Answered x))) new to found) (sym e)
+        subst (λ x. Sure k from (after_forced met (primary_by who (Ok x))) new to found) (sym e)
         (settle_sure (fate.Committed c) k new from to found)
     forced_by k new from to found a (inr (inr (info, e, is))) =
-        subst (λ x. Sure k from (after_forced met (primary_by who (response.Answered x))) new to found) (sym e)
+        subst (λ x. Sure k from (after_forced met (primary_by who (Ok x))) new to found) (sym e)
         (elim is.lets [
           | inl lt ↦ subst (λ o. Sure k from (after_forced met (standing_by info o)) new to found)
               (sym (pushed_by info (above info lt)))
@@ -140,11 +138,10 @@ module _ {S : Type 0} (sends : S → Asked → Reached → S → Type 0) (bounds
         ])
 
     after_forced_sure : (k new : Known) (from to : S) (found : Status) (by later : History) (c : Response)
-        → ((x : Answer) → c ≡ response.Answered x → Came by later (check_of met who true) x) → at ≤ last by
+        → ((x : Answer) → c ≡ Ok x → Came by later (check_of met who true) x) → at ≤ last by
         → IsServed c → Sure k from (after_forced met (primary_by who c)) new to found
-    after_forced_sure k new from to found by later response.Lost came le served = absurd served
-    after_forced_sure k new from to found by later response.OutOfMemory came le served = absurd served
-    after_forced_sure k new from to found by later (response.Answered a) came le served =
+    after_forced_sure k new from to found by later (Err why) came le served = absurd served
+    after_forced_sure k new from to found by later (Ok a) came le served =
         forced_by k new from to found a (check_served by later true a (came a refl) le served)
 
     forced_sure : (k new : Known) (from to : S) (found : Status) → at ≤ last k.events
@@ -163,7 +160,7 @@ module _ {S : Type 0} (sends : S → Asked → Reached → S → Type 0) (bounds
       -- what follows the answer of another key
       abbrev Follows : Answer → Type 0
       Follows a =
-          Sure k from (then_walk (further most more (other_by (response.Answered a))) (after_others met who)) new to
+          Sure k from (then_walk (further most more (other_by (Ok a))) (after_others met who)) new to
           found
 
       by_mode : (info : LockInfo) (m : Mode) → info.mode ≡ m → Follows (answer.Locked info)
@@ -171,7 +168,7 @@ module _ {S : Type 0} (sends : S → Asked → Reached → S → Type 0) (bounds
       by_mode info Async e = rw e (on _)
 
       other_by_sure : (by later : History) (key : Key) (a : Answer) → Came by later (other_of met.start key) a
-          → IsServed (response.Answered a) → Follows a
+          → IsServed (Ok a) → Follows a
       other_by_sure by later key a was served =
           elim (others_told by later (record { key = key; start = met.start }) a was) [
             | inl below ↦ absurd (not_below a below served)
@@ -181,11 +178,10 @@ module _ {S : Type 0} (sends : S → Asked → Reached → S → Type 0) (bounds
           ]
 
       other_sure : (by later : History) (key : Key) (c : Response)
-          → ((x : Answer) → c ≡ response.Answered x → Came by later (other_of met.start key) x) → IsServed c
+          → ((x : Answer) → c ≡ Ok x → Came by later (other_of met.start key) x) → IsServed c
           → Sure k from (then_walk (further most more (other_by c)) (after_others met who)) new to found
-      other_sure by later key response.Lost came served = absurd served
-      other_sure by later key response.OutOfMemory came served = absurd served
-      other_sure by later key (response.Answered a) came served = other_by_sure by later key a (came a refl) served
+      other_sure by later key (Err why) came served = absurd served
+      other_sure by later key (Ok a) came served = other_by_sure by later key a (came a refl) served
 
     others_sure : (keys : List Key) (least : ℕ) (k new : Known) (from to : S) (found : Status) → at ≤ last k.events
         → Sure k from (then_walk (others_walk met.start keys least) (after_others met who)) new to found
@@ -253,26 +249,25 @@ module _ {S : Type 0} (sends : S → Asked → Reached → S → Type 0) (bounds
 
       checked_comes : (k new : Known) (from to : S) (found : Status) (a : Answer) → at ≤ last k.events
           → WasAnswered k.events (check_of met who false) a → Checks (check_body false) a
-          → Comes k from (after_primary met who (primary_by who (response.Answered a))) new to found
+          → Comes k from (after_primary met who (primary_by who (Ok a))) new to found
       checked_comes k new from to found a le was (inl e) =
-          subst (λ x. Comes k from (after_primary met who (primary_by who (response.Answered x))) new to found) (sym e)
+          subst (λ x. Comes k from (after_primary met who (primary_by who (Ok x))) new to found) (sym e)
           (λ sent served. inl (settle_sure fate.Aborted k new from to found sent served))
       checked_comes k new from to found a le was (inr (inl (c, e))) =
-          subst (λ x. Comes k from (after_primary met who (primary_by who (response.Answered x))) new to found) (sym e)
+          subst (λ x. Comes k from (after_primary met who (primary_by who (Ok x))) new to found) (sym e)
           (λ sent served. inl (settle_sure (fate.Committed c) k new from to found sent served))
       checked_comes k new from to found a le was (inr (inr (info, e, is))) =
-          subst (λ x. Comes k from (after_primary met who (primary_by who (response.Answered x))) new to found) (sym e)
+          subst (λ x. Comes k from (after_primary met who (primary_by who (Ok x))) new to found) (sym e)
           (lock_comes k new from to found info le
           (told_of k.events (check_of met who false) info (subst (WasAnswered k.events (check_of met who false)) e was))
           is)
 
       after_comes : (k new : Known) (from to : S) (found : Status) (by : History) (c : Response) → at ≤ last by
           → at ≤ last k.events
-          → ((x : Answer) → c ≡ response.Answered x → Came by k.events (check_of met who false) x) → IsServed c
+          → ((x : Answer) → c ≡ Ok x → Came by k.events (check_of met who false) x) → IsServed c
           → Comes k from (after_primary met who (primary_by who c)) new to found
-      after_comes k new from to found by response.Lost le on came served = absurd served
-      after_comes k new from to found by response.OutOfMemory le on came served = absurd served
-      after_comes k new from to found by (response.Answered a) le on came served =
+      after_comes k new from to found by (Err why) le on came served = absurd served
+      after_comes k new from to found by (Ok a) le on came served =
           checked_comes k new from to found a on (came a refl).was
           (check_served by k.events false a (came a refl) le served)
 

@@ -1,9 +1,8 @@
 -- How many requests a walk sends.
-use Rattle.std.specs.Prelude.{◌≡◌, ℕ, ◌-◌, ◌<◌, ◌≤◌, length}
+use Rattle.std.specs.Prelude.{◌≡◌, ℕ, ◌-◌, ◌<◌, ◌≤◌, length, Ok}
 use Rattle.tx_types.specs.declared.mutation.Mode.TheVariants.{Async}
 use Rattle.tx_plan.specs.declared.answer.Answer.TheVariants as answer
-use Rattle.tx_transaction.specs.declared.state.Response.{Response}
-use Rattle.tx_transaction.specs.declared.state.Response.TheVariants as response
+use Rattle.tx_transaction.specs.Returns.{Response}
 use Rattle.tx_client.specs.Walks.{Walk, asks, grows, ends}
 
 -- At most n requests are sent, where what comes of each is so.
@@ -19,6 +18,6 @@ AnyResponse c = Unit {0}
 -- A region lists at most so many locks, and an async lock that is told at most so many other keys
 -- of its transaction.
 abbrev pub Lists : (locks others : ℕ) → Response → Type 0
-Lists locks others (response.Answered (answer.Locks infos)) = length infos ≤ locks
-Lists locks others (response.Answered (answer.Locked info)) = info.mode ≡ Async → length info.secondaries ≤ others
+Lists locks others (Ok (answer.Locks infos)) = length infos ≤ locks
+Lists locks others (Ok (answer.Locked info)) = info.mode ≡ Async → length info.secondaries ≤ others
 Lists locks others _ = Unit {0}

@@ -1,5 +1,5 @@
 -- When a resolver settles what it is asked for.
-use Rattle.std.specs.Prelude.{◌≡◌, ◌⊎◌, ℕ, ◌+◌, ◌<◌, ◌≤◌, List}
+use Rattle.std.specs.Prelude.{◌≡◌, ◌⊎◌, ℕ, ◌+◌, ◌<◌, ◌≤◌, List, Ok, Err}
 use Rattle.std.proofs.Common.{inl, inr}
 use Rattle.tx_types.specs.declared.key.Key.{Key}
 use Rattle.tx_types.specs.declared.lock.LockInfo.{LockInfo}
@@ -11,8 +11,7 @@ use Rattle.tx_core.specs.Laws.{WasToldOf}
 use Rattle.tx_journal.specs.Known.{Known}
 use Rattle.tx_journal.specs.Replies.{Asked}
 use Rattle.tx_journal.specs.Senders.{Reached}
-use Rattle.tx_transaction.specs.declared.state.Response.{Response}
-use Rattle.tx_transaction.specs.declared.state.Response.TheVariants as response
+use Rattle.tx_transaction.specs.Returns.{Response}
 use Rattle.tx_client.specs.declared.resolved.Status.{Status}
 use Rattle.tx_client.specs.declared.resolved.Status.TheVariants as status
 use Rattle.tx_client.specs.Facts.{WasAnswered}
@@ -23,10 +22,9 @@ use Rattle.tx_resolve.specs.BlockedReads.{read_walk}
 
 -- a request is answered, and not refused below a safe point
 abbrev pub IsServed : Response → Type 0
-IsServed response.Lost = ⊥
-IsServed response.OutOfMemory = ⊥
-IsServed (response.Answered (answer.BelowSafePoint safe)) = ⊥
-IsServed (response.Answered a) = Unit {0}
+IsServed (Err why) = ⊥
+IsServed (Ok (answer.BelowSafePoint safe)) = ⊥
+IsServed (Ok a) = Unit {0}
 
 module _ {S R : Type 0} (sends : S → Asked → Reached → S → Type 0) (bounds : List Key) where
   -- no memory is refused to these sends, and each of their requests is served

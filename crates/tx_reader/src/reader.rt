@@ -12,7 +12,7 @@ ghost use Rattle.tx_reader.specs.Readers.{AreTogether, IsOfOneRegion, IsReadOf, 
 use crate::read::Read;
 use std::alloc::Global;
 use std::marker::Model;
-use tx_client::{Miss, Resolved, Response, Status, ask};
+use tx_client::{Miss, Resolved, Status, ask};
 use tx_core::{Answer, Body, Get, Starts};
 use tx_journal::{JournalId, Reply, Request, Seat, Sender};
 use tx_plan::{Boxed, Scan};
@@ -120,11 +120,7 @@ impl<J: JournalId> Reader<J> {
         let Ok(body) = self.body_of(read) else {
             return Err(Miss::Fault);
         };
-        match ask(&mut self.seat, body, sender) {
-            Response::Lost => Err(Miss::Lost),
-            Response::OutOfMemory => Err(Miss::Fault),
-            Response::Answered(answer) => Ok(answer),
-        }
+        ask(&mut self.seat, body, sender)
     }
 
     // Its reads pass by a transaction that leaves them alone, as a resolver found.

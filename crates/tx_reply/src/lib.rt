@@ -4,7 +4,9 @@
 
 mod answer;
 mod reply;
+mod reply_line;
 mod status;
 mod versions;
 
 pub use reply::{REFUSAL_BYTES, ScriptReply, put_reply};
+pub use reply_line::ReplyLine;

@@ -1,5 +1,5 @@
 //! The replies of a script, and the lines that tell them.
-ghost use Rattle.std.specs.Prelude.{◌≡◌, ◌++◌, OnOk};
+ghost use Rattle.std.specs.Prelude.{◌≡◌, ◌∷◌, [], ◌++◌, OnOk};
 ghost use Rattle.tx_reply.specs.Replies.{reply_words, outcome_words, collected_words};
 ghost use Rattle.tx_text.specs.Members.{reply_text};
 ghost use Rattle.tx_core.specs.declared.event.Outcome.TheVariants as outcome;
@@ -118,12 +118,20 @@ fn put_words(out: &mut Vec<u8>, reply: &ScriptReply) -> Result<(), AllocError>
 /// without a growth.
 pub const REFUSAL_BYTES: usize = 32;
 
+/// Appends what follows the number in the line of a reply, with its newline.
+#[inline(always)]
+pub(crate) fn put_behind_number(out: &mut Vec<u8>, reply: &ScriptReply) -> Result<(), AllocError>
+    ensures { OnOk result (out.new.items ≡ (out.old.items ++ members_text (reply_words reply.now)) ++ 93 ∷ 10 ∷ []) }
+{
+    put_words(out, reply)?;
+    put_end(out)
+}
+
 /// Appends the line that tells a reply, with its newline.
 pub fn put_reply(out: &mut Vec<u8>, number: u64, reply: &ScriptReply) -> Result<(), AllocError>
     ensures { OnOk result (out.new.items ≡ out.old.items ++ reply_text (number, reply_words reply.now)) }
 {
     out.push(b'[')?;
     put_digits(out, number)?;
-    put_words(out, reply)?;
-    put_end(out)
+    put_behind_number(out, reply)
 }

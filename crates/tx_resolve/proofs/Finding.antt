@@ -1,5 +1,5 @@
 -- What answers to a resolver tell is so.
-use Rattle.std.proofs.Common.{◌≡◌, ◌&&◌, ◌+◌, ℕ, Bool, true, false, cond, List, [], Some, None, inl, inr, refl, sym, ap, subst, ◌∙◌}
+use Rattle.std.proofs.Common.{◌≡◌, ◌&&◌, ◌+◌, ℕ, Bool, true, false, cond, List, [], Some, None, Ok, Err, inl, inr, refl, sym, ap, subst, ◌∙◌}
 use Rattle.std.specs.Prelude.{Contains}
 use Rattle.std.proofs.lemmas.Bool.{and_parts}
 use Rattle.std.proofs.lemmas.List.Elements.{Contains-push}
@@ -25,8 +25,7 @@ use Rattle.tx_core.specs.Worlds.{IsWorldRun}
 use Rattle.tx_core.specs.Laws.{WasToldOf, IsLockOf}
 use Rattle.tx_core.proofs.runs.Consequences.{told_fate}
 use Rattle.tx_core.proofs.locks.ToldLocks.{told_lock}
-use Rattle.tx_transaction.specs.declared.state.Response.{Response}
-use Rattle.tx_transaction.specs.declared.state.Response.TheVariants as response
+use Rattle.tx_transaction.specs.Returns.{Response}
 use Rattle.tx_client.specs.declared.resolved.Status.TheVariants as status
 use Rattle.tx_client.specs.declared.resolved.WaitCause.TheVariants as cause
 use Rattle.tx_client.specs.Facts.{WasAnswered, RespondsSo}
@@ -164,21 +163,21 @@ module _ (bounds : List Key) (h : History) (run : IsWorldRun bounds h) where
 
     pub primary_ok : (c : Response) → RespondsSo h (check_of met who forced) c
         → IsPrimary h met.start (primary_by who c)
-    primary_ok (response.Answered (answer.Committed c)) was =
+    primary_ok (Ok (answer.Committed c)) was =
         fate_told (check_of met who forced) (answer.Committed c) met.start (fate.Committed c) refl refl was
-    primary_ok (response.Answered answer.RolledBack) was =
+    primary_ok (Ok answer.RolledBack) was =
         fate_told (check_of met who forced) answer.RolledBack met.start fate.Aborted refl refl was
-    primary_ok (response.Answered (answer.Locked info)) was = standing_ok info was
+    primary_ok (Ok (answer.Locked info)) was = standing_ok info was
     primary_ok _ was = tt
 
   -- ---- another key
 
   pub other_ok : (t : ℕ) (key : Key) (c : Response) → RespondsSo h (other_of t key) c → IsOther h t key (other_by c)
-  other_ok t key (response.Answered (answer.Committed c)) was =
+  other_ok t key (Ok (answer.Committed c)) was =
       fate_told (other_of t key) (answer.Committed c) t (fate.Committed c) refl refl was
-  other_ok t key (response.Answered answer.Missing) was =
+  other_ok t key (Ok answer.Missing) was =
       fate_told (other_of t key) answer.Missing t fate.Aborted refl refl was
-  other_ok t key (response.Answered (answer.Locked info)) was = by_mode info.mode refl
+  other_ok t key (Ok (answer.Locked info)) was = by_mode info.mode refl
     where
       own : IsOwn t key info
       own = (let g = gave (other_of t key) (answer.Locked info) was in
@@ -207,7 +206,6 @@ ends_so h t fate.Aborted e = e
 
 pub settled_ok : (h : History) (t : ℕ) (end : Fate) (c : Response) → decided h t ≡ Done end
     → Ends h t (settled_by end c)
-settled_ok h t end response.Lost e = tt
-settled_ok h t end response.OutOfMemory e = tt
-settled_ok h t end (response.Answered answer.Resolved) e = ends_so h t end e
-settled_ok h t end (response.Answered _) e = tt
+settled_ok h t end (Err why) e = tt
+settled_ok h t end (Ok answer.Resolved) e = ends_so h t end e
+settled_ok h t end (Ok _) e = tt

@@ -12,7 +12,7 @@ use Rattle.tx_core.proofs.seats.Staying.{among_on}
 use Rattle.tx_journal.specs.Known.{Known}
 use Rattle.tx_journal.specs.Replies.{Asked}
 use Rattle.tx_journal.proofs.Calls.{seen_begins}
-use Rattle.tx_transaction.specs.declared.state.Response.{Response}
+use Rattle.tx_transaction.specs.Returns.{Response}
 use Rattle.tx_journal.specs.Senders.{Reached}
 use Rattle.tx_client.specs.Learns.{response_of, Learns}
 use Rattle.tx_client.specs.Walks.{Walk, asks, grows, ends, Sends}

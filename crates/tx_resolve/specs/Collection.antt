@@ -6,8 +6,7 @@ use Rattle.tx_types.specs.declared.fault.Fault.{Fault}
 use Rattle.tx_types.specs.declared.fault.Fault.TheVariants as fault
 use Rattle.tx_plan.specs.declared.body.Body.TheVariants as body
 use Rattle.tx_plan.specs.declared.answer.Answer.TheVariants as answer
-use Rattle.tx_transaction.specs.declared.state.Response.{Response}
-use Rattle.tx_transaction.specs.declared.state.Response.TheVariants as response
+use Rattle.tx_transaction.specs.Returns.{Response}
 use Rattle.tx_client.specs.Walks.{Walk, asks, ends, then_walk}
 use Rattle.tx_resolve.specs.declared.found.For.TheVariants.{Collector}
 use Rattle.tx_resolve.specs.declared.collector.Counts.{Counts}
@@ -29,13 +28,13 @@ in_regions each (suc count) n a = then_walk (each n a) (on_ok (in_regions each c
 -- ---- one region: each answer of the case tables is handed on, and no answer is want of memory
 
 abbrev pub raised_by : Response → Result (Unit {0}) Fault
-raised_by (response.Answered answer.Raised) = Ok tt
-raised_by (response.Answered (answer.BelowSafePoint safe)) = Err (fault.BelowSafePoint safe)
-raised_by (response.Answered (answer.FutureTimestamp last)) = Err (fault.FutureTimestamp last)
+raised_by (Ok answer.Raised) = Ok tt
+raised_by (Ok (answer.BelowSafePoint safe)) = Err (fault.BelowSafePoint safe)
+raised_by (Ok (answer.FutureTimestamp last)) = Err (fault.FutureTimestamp last)
 raised_by _ = Err fault.OutOfMemory
 
 abbrev pub listed_by : Response → Result (List LockInfo) Fault
-listed_by (response.Answered (answer.Locks infos)) = Ok infos
+listed_by (Ok (answer.Locks infos)) = Ok infos
 listed_by _ = Err fault.OutOfMemory
 
 -- the sums, as far as 64 bits hold them
@@ -47,13 +46,13 @@ added x y = record {
 
 -- what was dropped is added to what was dropped before
 abbrev pub dropped_by : Counts → Response → Result Counts Fault
-dropped_by counts (response.Answered (answer.Collected records values)) =
+dropped_by counts (Ok (answer.Collected records values)) =
     Ok (added counts (record { records = records; values = values }))
-dropped_by counts (response.Answered (answer.BelowSafePoint safe)) = Err (fault.BelowSafePoint safe)
+dropped_by counts (Ok (answer.BelowSafePoint safe)) = Err (fault.BelowSafePoint safe)
 dropped_by counts _ = Err fault.OutOfMemory
 
 abbrev pub collected_by : Counts → Response → Result Counts Fault
-collected_by counts (response.Answered (answer.LocksRemain info)) = Err (fault.LocksRemain info)
+collected_by counts (Ok (answer.LocksRemain info)) = Err (fault.LocksRemain info)
 collected_by counts c = dropped_by counts c
 
 -- the safe point of a region rises

@@ -1,5 +1,5 @@
 -- What holds of what a resolver has found so far, and what may come of a collector's requests.
-use Rattle.std.specs.Prelude.{◌≡◌, ℕ, max, true, List, [], ◌∷◌}
+use Rattle.std.specs.Prelude.{◌≡◌, ℕ, max, true, List, [], ◌∷◌, Ok, Err}
 use Rattle.tx_types.specs.declared.key.Key.{Key}
 use Rattle.tx_types.specs.declared.lock.LockInfo.{LockInfo}
 use Rattle.tx_types.specs.declared.mutation.Mode.TheVariants.{Async}
@@ -9,8 +9,8 @@ use Rattle.tx_core.specs.Decisions.{decided, HasTwoPhaseLock}
 use Rattle.tx_core.specs.Worlds.{IsWorldRun}
 use Rattle.tx_core.specs.Laws.{WasToldOf, IsLockOf, HadAsyncLock}
 use Rattle.tx_plan.specs.declared.answer.Answer.TheVariants as answer
-use Rattle.tx_transaction.specs.declared.state.Response.{Response}
-use Rattle.tx_transaction.specs.declared.state.Response.TheVariants as response
+use Rattle.tx_transaction.specs.Returns.{Response}
+use Rattle.tx_transaction.specs.declared.state.Miss.TheVariants as miss
 use Rattle.tx_client.specs.Statuses.{Ends}
 use Rattle.tx_resolve.specs.declared.found.Primary.{Primary}
 use Rattle.tx_resolve.specs.declared.found.Primary.TheVariants as primary
@@ -54,23 +54,23 @@ HadLocks h t (key ∷ keys) least most = (minimum : ℕ) × HadAsyncLock h t key
 -- ---- what may come of a collector's requests, none of them lost: an answer of the tables, or none
 
 abbrev pub IsToRaise : Response → Type 0
-IsToRaise response.OutOfMemory = Unit {0}
-IsToRaise (response.Answered answer.Raised) = Unit {0}
-IsToRaise (response.Answered (answer.BelowSafePoint safe)) = Unit {0}
-IsToRaise (response.Answered (answer.FutureTimestamp last)) = Unit {0}
+IsToRaise (Err miss.Fault) = Unit {0}
+IsToRaise (Ok answer.Raised) = Unit {0}
+IsToRaise (Ok (answer.BelowSafePoint safe)) = Unit {0}
+IsToRaise (Ok (answer.FutureTimestamp last)) = Unit {0}
 IsToRaise _ = ⊥
 
 abbrev pub IsToList : Response → Type 0
-IsToList response.OutOfMemory = Unit {0}
-IsToList (response.Answered (answer.Locks infos)) = Unit {0}
+IsToList (Err miss.Fault) = Unit {0}
+IsToList (Ok (answer.Locks infos)) = Unit {0}
 IsToList _ = ⊥
 
 abbrev pub IsToDrop : Response → Type 0
-IsToDrop response.OutOfMemory = Unit {0}
-IsToDrop (response.Answered (answer.Collected records values)) = Unit {0}
-IsToDrop (response.Answered (answer.BelowSafePoint safe)) = Unit {0}
+IsToDrop (Err miss.Fault) = Unit {0}
+IsToDrop (Ok (answer.Collected records values)) = Unit {0}
+IsToDrop (Ok (answer.BelowSafePoint safe)) = Unit {0}
 IsToDrop _ = ⊥
 
 abbrev pub IsToCollect : Response → Type 0
-IsToCollect (response.Answered (answer.LocksRemain info)) = Unit {0}
+IsToCollect (Ok (answer.LocksRemain info)) = Unit {0}
 IsToCollect c = IsToDrop c

@@ -1,5 +1,5 @@
 -- What a resolver sends for a lock that was met, and what it finds.
-use Rattle.std.specs.Prelude.{ℕ, ◌+◌, ◌&&◌, max, nat_lt, Bool, true, false, cond, List, [], ◌∷◌, Option, Some, None}
+use Rattle.std.specs.Prelude.{ℕ, ◌+◌, ◌&&◌, max, nat_lt, Bool, true, false, cond, List, [], ◌∷◌, Option, Some, None, Ok, Err}
 use Rattle.tx_types.specs.declared.key.Key.{Key}
 use Rattle.tx_types.specs.declared.lock.LockInfo.{LockInfo}
 use Rattle.tx_types.specs.declared.mutation.Fate.{Fate}
@@ -9,8 +9,8 @@ use Rattle.tx_types.specs.declared.mutation.Mode.TheVariants.{TwoPhase, Async}
 use Rattle.tx_plan.specs.declared.body.Body.{Body}
 use Rattle.tx_plan.specs.declared.body.Body.TheVariants as body
 use Rattle.tx_plan.specs.declared.answer.Answer.TheVariants as answer
-use Rattle.tx_transaction.specs.declared.state.Response.{Response}
-use Rattle.tx_transaction.specs.declared.state.Response.TheVariants as response
+use Rattle.tx_transaction.specs.Returns.{Response}
+use Rattle.tx_transaction.specs.declared.state.Miss.TheVariants as miss
 use Rattle.tx_client.specs.declared.resolved.Status.{Status}
 use Rattle.tx_client.specs.declared.resolved.Status.TheVariants as status
 use Rattle.tx_client.specs.declared.resolved.WaitCause.{WaitCause}
@@ -73,11 +73,11 @@ settle_of met end = body.ResolveLock record { key = met.key; start = met.start; 
 
 -- why to wait
 abbrev pub waiting_by : Response → WaitCause
-waiting_by response.Lost = cause.Reply
-waiting_by response.OutOfMemory = cause.OutOfMemory
-waiting_by (response.Answered (answer.BelowSafePoint safe)) = cause.BelowSafePoint
-waiting_by (response.Answered answer.TxnNotFound) = cause.NotFound
-waiting_by (response.Answered a) = cause.Live
+waiting_by (Err miss.Lost) = cause.Reply
+waiting_by (Err miss.Fault) = cause.OutOfMemory
+waiting_by (Ok (answer.BelowSafePoint safe)) = cause.BelowSafePoint
+waiting_by (Ok answer.TxnNotFound) = cause.NotFound
+waiting_by (Ok a) = cause.Live
 
 abbrev pub is_async : Mode → Bool
 is_async TwoPhase = false
@@ -96,22 +96,22 @@ standing_by info (Some found) = primary.Rests found
 
 -- the primary tells a fate, or why to wait
 abbrev pub unlocked_by : Response → Primary
-unlocked_by (response.Answered (answer.Committed c)) = primary.Decided (fate.Committed c)
-unlocked_by (response.Answered answer.RolledBack) = primary.Decided fate.Aborted
+unlocked_by (Ok (answer.Committed c)) = primary.Decided (fate.Committed c)
+unlocked_by (Ok answer.RolledBack) = primary.Decided fate.Aborted
 unlocked_by c = primary.Rests (status.Waiting (waiting_by c))
 
 -- or of its lock
 abbrev pub primary_by : For → Response → Primary
-primary_by who (response.Answered (answer.Locked info)) = standing_by info (rests_by who info)
+primary_by who (Ok (answer.Locked info)) = standing_by info (rests_by who info)
 primary_by who c = unlocked_by c
 
 -- another key: its async lock, with its minimum, leaves all open; a two-phase lock, a commit or
 -- that it is missing does not
 abbrev pub other_by : Response → Other
-other_by (response.Answered (answer.Locked info)) =
+other_by (Ok (answer.Locked info)) =
     elim info.mode [ TwoPhase ↦ other.Ends others.FellBack | Async ↦ other.Async info.min ]
-other_by (response.Answered (answer.Committed c)) = other.Ends (others.Decided (fate.Committed c))
-other_by (response.Answered answer.Missing) = other.Ends (others.Decided fate.Aborted)
+other_by (Ok (answer.Committed c)) = other.Ends (others.Decided (fate.Committed c))
+other_by (Ok answer.Missing) = other.Ends (others.Decided fate.Aborted)
 other_by c = other.Ends (others.Rests (waiting_by c))
 
 abbrev pub status_of : Fate → Status
@@ -121,7 +121,7 @@ status_of fate.Aborted = status.Aborted
 -- a fate is the status once the lock that was met is answered resolved; any other answer
 -- says why to wait
 abbrev pub settled_by : Fate → Response → Status
-settled_by end (response.Answered answer.Resolved) = status_of end
+settled_by end (Ok answer.Resolved) = status_of end
 settled_by end c = status.Waiting (waiting_by c)
 
 -- ---- the walk

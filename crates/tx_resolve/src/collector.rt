@@ -18,7 +18,7 @@ ghost use Rattle.tx_resolve.specs.Facts.{IsToRaise, IsToList, IsToDrop, IsToColl
 
 use crate::found::For;
 use crate::resolver::resolve_for;
-use tx_client::{Response, ask};
+use tx_client::{Miss, ask};
 use tx_core::{Answer, Body, Collect, Infos, LocksBelow, RaiseSafe, RegionNo};
 use tx_journal::{JournalId, Reply, Request, Seat, Sender};
 use tx_types::{Fault, LockInfo, Ts};
@@ -51,59 +51,51 @@ impl Counts {
 }
 
 // Whether a safe point was raised.
-fn raised_by(response: &Response) -> Result<(), Fault>
+fn raised_by(response: &Result<Answer, Miss>) -> Result<(), Fault>
     requires { IsToRaise response.now }
     ensures { result ≡ raised_by response.now }
 {
     match response {
-        Response::Answered(Answer::Raised) => Ok(()),
-        Response::Answered(Answer::BelowSafePoint { safe }) => Err(Fault::BelowSafePoint {
-            safe: *safe,
-        }),
-        Response::Answered(Answer::FutureTimestamp { last }) => Err(Fault::FutureTimestamp {
-            last: *last,
-        }),
-        Response::OutOfMemory => Err(Fault::OutOfMemory),
+        Ok(Answer::Raised) => Ok(()),
+        Ok(Answer::BelowSafePoint { safe }) => Err(Fault::BelowSafePoint { safe: *safe }),
+        Ok(Answer::FutureTimestamp { last }) => Err(Fault::FutureTimestamp { last: *last }),
+        Err(Miss::Fault) => Err(Fault::OutOfMemory),
         _ => unreachable!(),
     }
 }
 
 // The locks that were listed.
-fn listed_by(response: Response) -> Result<Infos, Fault>
+fn listed_by(response: Result<Answer, Miss>) -> Result<Infos, Fault>
     requires { IsToList response }
     ensures { result ≡ listed_by response }
 {
     match response {
-        Response::Answered(Answer::Locks(infos)) => Ok(infos),
-        Response::OutOfMemory => Err(Fault::OutOfMemory),
+        Ok(Answer::Locks(infos)) => Ok(infos),
+        Err(Miss::Fault) => Err(Fault::OutOfMemory),
         _ => unreachable!(),
     }
 }
 
 // What was dropped, beside what was before.
-fn dropped_by(counts: Counts, response: &Response) -> Result<Counts, Fault>
+fn dropped_by(counts: Counts, response: &Result<Answer, Miss>) -> Result<Counts, Fault>
     requires { IsToDrop response.now }
     ensures { result ≡ dropped_by counts response.now }
 {
     match response {
-        Response::Answered(Answer::Collected { records, values }) => Ok(counts.add(
-            *records, *values,
-        )),
-        Response::Answered(Answer::BelowSafePoint { safe }) => Err(Fault::BelowSafePoint {
-            safe: *safe,
-        }),
-        Response::OutOfMemory => Err(Fault::OutOfMemory),
+        Ok(Answer::Collected { records, values }) => Ok(counts.add(*records, *values)),
+        Ok(Answer::BelowSafePoint { safe }) => Err(Fault::BelowSafePoint { safe: *safe }),
+        Err(Miss::Fault) => Err(Fault::OutOfMemory),
         _ => unreachable!(),
     }
 }
 
 // The lock that remains, or what was dropped.
-fn collected_by(counts: Counts, response: Response) -> Result<Counts, Fault>
+fn collected_by(counts: Counts, response: Result<Answer, Miss>) -> Result<Counts, Fault>
     requires { IsToCollect response }
     ensures { result ≡ collected_by counts response }
 {
     match response {
-        Response::Answered(Answer::LocksRemain(info)) => Err(Fault::LocksRemain(info)),
+        Ok(Answer::LocksRemain(info)) => Err(Fault::LocksRemain(info)),
         other => dropped_by(counts, &other),
     }
 }

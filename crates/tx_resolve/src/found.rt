@@ -2,7 +2,7 @@
 ghost use Rattle.std.specs.Prelude.{◌≡◌};
 ghost use Rattle.tx_resolve.specs.Resolution.{caller_of, time_of, is_over, lets_pass, waiting_by, rests_by, standing_by, unlocked_by, primary_by, other_by, status_of, settled_by};
 
-use tx_client::{Response, Status, WaitCause};
+use tx_client::{Miss, Status, WaitCause};
 use tx_core::Answer;
 use tx_types::{Fate, LockInfo, Mode, Ts};
 
@@ -91,15 +91,15 @@ pub(crate) enum Other {
 }
 
 // Why to wait.
-fn waiting_by(response: &Response) -> WaitCause
+fn waiting_by(response: &Result<Answer, Miss>) -> WaitCause
     ensures { result ≡ waiting_by response.now }
 {
     match response {
-        Response::Lost => WaitCause::Reply,
-        Response::OutOfMemory => WaitCause::OutOfMemory,
-        Response::Answered(Answer::BelowSafePoint { .. }) => WaitCause::BelowSafePoint,
-        Response::Answered(Answer::TxnNotFound) => WaitCause::NotFound,
-        Response::Answered(_) => WaitCause::Live,
+        Err(Miss::Lost) => WaitCause::Reply,
+        Err(Miss::Fault) => WaitCause::OutOfMemory,
+        Ok(Answer::BelowSafePoint { .. }) => WaitCause::BelowSafePoint,
+        Ok(Answer::TxnNotFound) => WaitCause::NotFound,
+        Ok(_) => WaitCause::Live,
     }
 }
 
@@ -128,39 +128,37 @@ fn standing_by(who: &For, info: LockInfo) -> Primary
 }
 
 // What the answer of a primary comes to that tells of no lock.
-fn unlocked_by(response: &Response) -> Primary
+fn unlocked_by(response: &Result<Answer, Miss>) -> Primary
     ensures { result ≡ unlocked_by response.now }
 {
     match response {
-        Response::Answered(Answer::Committed(commit)) => Primary::Decided(Fate::Committed(*commit)),
-        Response::Answered(Answer::RolledBack) => Primary::Decided(Fate::Aborted),
+        Ok(Answer::Committed(commit)) => Primary::Decided(Fate::Committed(*commit)),
+        Ok(Answer::RolledBack) => Primary::Decided(Fate::Aborted),
         other => Primary::Rests(Status::Waiting(waiting_by(other))),
     }
 }
 
 /// What the answer of a primary comes to.
-pub(crate) fn primary_by(who: &For, response: Response) -> Primary
+pub(crate) fn primary_by(who: &For, response: Result<Answer, Miss>) -> Primary
     ensures { result ≡ primary_by who.now response }
 {
     match response {
-        Response::Answered(Answer::Locked(info)) => standing_by(who, info),
+        Ok(Answer::Locked(info)) => standing_by(who, info),
         other => unlocked_by(&other),
     }
 }
 
 /// What the answer of another key comes to.
-pub(crate) fn other_by(response: &Response) -> Other
+pub(crate) fn other_by(response: &Result<Answer, Miss>) -> Other
     ensures { result ≡ other_by response.now }
 {
     match response {
-        Response::Answered(Answer::Locked(info)) => match info.facts().mode {
+        Ok(Answer::Locked(info)) => match info.facts().mode {
             Mode::TwoPhase => Other::Ends(Others::FellBack),
             Mode::Async => Other::Async(info.facts().min),
         },
-        Response::Answered(Answer::Committed(commit)) => {
-            Other::Ends(Others::Decided(Fate::Committed(*commit)))
-        }
-        Response::Answered(Answer::Missing) => Other::Ends(Others::Decided(Fate::Aborted)),
+        Ok(Answer::Committed(commit)) => { Other::Ends(Others::Decided(Fate::Committed(*commit))) }
+        Ok(Answer::Missing) => Other::Ends(Others::Decided(Fate::Aborted)),
         other => Other::Ends(Others::Rests(waiting_by(other))),
     }
 }
@@ -176,11 +174,11 @@ fn status_of(fate: &Fate) -> Status
 }
 
 /// What a fate comes to by the answer of the lock that was given it.
-pub(crate) fn settled_by(fate: &Fate, response: &Response) -> Status
+pub(crate) fn settled_by(fate: &Fate, response: &Result<Answer, Miss>) -> Status
     ensures { result ≡ settled_by fate.now response.now }
 {
     match response {
-        Response::Answered(Answer::Resolved) => status_of(fate),
+        Ok(Answer::Resolved) => status_of(fate),
         other => Status::Waiting(waiting_by(other)),
     }
 }

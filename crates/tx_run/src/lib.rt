@@ -14,6 +14,7 @@ mod run;
 mod script;
 mod seeds;
 mod session_line;
+mod sessions;
 mod settings;
 mod state;
 mod write;

@@ -25,3 +25,21 @@ impl<J: JournalId, L: Source> Model for JobOutput<J, L> {
 
     ghost view = { λ o. record { number = o.number; log = o.log; faulted = o.faulted } };
 }
+
+/// How many write records were collected.
+pub(crate) fn count_collected<J: JournalId, L: Source>(outputs: &[JobOutput<J, L>]) -> u64 {
+    let mut collected: u64 = 0;
+    for output in outputs {
+        collected = collected.saturating_add(output.collected);
+    }
+    collected
+}
+
+/// What stood in the way of all sessions.
+pub(crate) fn count_refusals<J: JournalId, L: Source>(outputs: &[JobOutput<J, L>]) -> Refusals {
+    let mut refusals = Refusals::NONE;
+    for output in outputs {
+        refusals = refusals.and(output.refusals);
+    }
+    refusals
+}

@@ -1,5 +1,5 @@
 -- What holds of whatever a turn goes on to, by what regions answer.
-use Rattle.std.proofs.Common.{◌≡◌, inl, inr, Bool, true, false, cond, List, refl, ◌∙◌}
+use Rattle.std.proofs.Common.{◌≡◌, inl, inr, Bool, true, false, cond, List, refl, ◌∙◌, Ok, Err}
 use Rattle.tx_types.specs.declared.fault.Cause.{Cause}
 use Rattle.tx_types.specs.declared.key.Key.{Key}
 use Rattle.tx_plan.specs.declared.body.Body.{Body}
@@ -7,8 +7,8 @@ use Rattle.tx_plan.specs.declared.answer.Answer.{Answer}
 use Rattle.tx_cells.specs.declared.copies.KeyVersions.{KeyVersions}
 use Rattle.tx_core.specs.Histories.{History, last, Begins}
 use Rattle.tx_core.proofs.seats.Beginnings.{begins_all, begins_more}
-use Rattle.tx_transaction.specs.declared.state.Response.{Response}
-use Rattle.tx_transaction.specs.declared.state.Response.TheVariants as response
+use Rattle.tx_transaction.specs.Returns.{Response}
+use Rattle.tx_transaction.specs.declared.state.Miss.TheVariants as miss
 use Rattle.tx_client.specs.Facts.{RespondsSo}
 use Rattle.tx_client.specs.Walks.{Walk, asks, grows, ends}
 use Rattle.tx_ops.specs.Edits.{is_refused, later_of}
@@ -59,7 +59,7 @@ module _ (bounds : List Key) (P : EngineState → ScriptReply → Type 0) where
   answers_tell : (engine : EngineState) (body : Body) (on : Response → EngineState → List Bool → Transition)
       → After engine body on → (left : List Bool) → AllTell (answers bounds engine body on left)
   answers_tell engine body on tell left = λ a.
-      tell (response.Answered a) (at_network engine (taken bounds engine.network body a)) left
+      tell (Ok a) (at_network engine (taken bounds engine.network body a)) left
       (record { begins = inr (begins_all engine.network.history); names = refl; slots = refl })
       (record {
         by = record {
@@ -77,7 +77,7 @@ module _ (bounds : List Key) (P : EngineState → ScriptReply → Type 0) where
       → Transition) → After engine body on → AllTell (asked bounds refused engine body on)
   asked_tells refused engine body on tell =
       either (takes_memory body) _ _
-      (either (is_refused refused) _ _ (tell response.OutOfMemory engine (later_of refused) (since_same engine) tt)
+      (either (is_refused refused) _ _ (tell (Err miss.Fault) engine (later_of refused) (since_same engine) tt)
       (answers_tell engine body on tell (later_of refused)))
       (answers_tell engine body on tell refused)
 
@@ -85,18 +85,18 @@ module _ (bounds : List Key) (P : EngineState → ScriptReply → Type 0) where
       → EngineState → List Bool → Transition) → After engine body on
       → AllTell (sent bounds delivery refused engine body on)
   sent_tells deliveries.Taken refused engine body on tell = asked_tells refused engine body on tell
-  sent_tells deliveries.Lost refused engine body on tell = tell response.Lost engine refused (since_same engine) tt
+  sent_tells deliveries.Lost refused engine body on tell = tell (Err miss.Lost) engine refused (since_same engine) tt
   sent_tells deliveries.Unanswered refused engine body on tell =
-      asked_tells refused engine body (λ c. on response.Lost) (λ c next left since was. tell response.Lost next left since
+      asked_tells refused engine body (λ c. on (Err miss.Lost)) (λ c next left since was. tell (Err miss.Lost) next left since
       tt)
   sent_tells deliveries.Repeated refused engine body on tell =
-      either (is_refused refused) _ _ (tell response.OutOfMemory engine (later_of refused) (since_same engine) tt)
+      either (is_refused refused) _ _ (tell (Err miss.Fault) engine (later_of refused) (since_same engine) tt)
       (asked_tells (later_of refused) engine body (λ c next left. asked bounds left next body on)
       (λ c next left since was. asked_tells left next body on
       (λ d then_next then_left later so. tell d then_next then_left (since_more engine next then_next since later) so)))
   sent_tells (deliveries.Held name) refused engine body on tell =
-      either (is_refused refused) _ _ (tell response.OutOfMemory engine (later_of refused) (since_same engine) tt)
-      (tell response.Lost (at_network engine (holding engine.network name body)) (later_of refused)
+      either (is_refused refused) _ _ (tell (Err miss.Fault) engine (later_of refused) (since_same engine) tt)
+      (tell (Err miss.Lost) (at_network engine (holding engine.network name body)) (later_of refused)
       (record { begins = begins_all engine.network.history; names = refl; slots = refl }) tt)
 
   pub runs_tell : {R : Type 0} (Q : History → R → Type 0) (delivery : Delivery Text) (refused : List Bool)

@@ -30,3 +30,5 @@ pub mod Numbering
 pub mod NumberedLines
 -- What was written of a script whose steps stand beside the numbers of its lines, in the end.
 pub mod NumberedEnds
+-- A line that is out of order, and how far the session of its step is.
+pub mod Stops

@@ -16,7 +16,6 @@ use Rattle.tx_core.proofs.seats.Beginnings.{begins_all}
 use Rattle.tx_transaction.specs.declared.state.Miss.{Miss}
 use Rattle.tx_transaction.specs.declared.state.Miss.TheVariants as miss
 use Rattle.tx_transaction.specs.declared.state.Phase.TheVariants as phase
-use Rattle.tx_transaction.specs.declared.state.Response.TheVariants as response
 use Rattle.tx_transaction.specs.Sessions.{SessionState, is_declared, has_primary, exceeds, due_prewrite, due_commit, due_abort, can_draw, can_commit, can_abort, finish_of, notes_one, with_passed}
 use Rattle.tx_client.specs.declared.resolved.Status.{Status}
 use Rattle.tx_client.specs.Statuses.{lies_above}
@@ -27,7 +26,7 @@ use Rattle.tx_resolve.specs.BlockedReads.{read_walk}
 use Rattle.tx_resolve.specs.Collection.{gc_walk}
 use Rattle.tx_ops.specs.Edits.{Edit, is_refused, later_of, puts, inserts, deletes, locks}
 use Rattle.tx_ops.specs.Edits as edit
-use Rattle.tx_ops.specs.Calls.{Said, call_walk}
+use Rattle.tx_ops.specs.Calls.{Said, read_reply, call_walk}
 use Rattle.tx_steps.specs.declared.delivery.Delivery.{Delivery}
 use Rattle.tx_steps.specs.declared.delivery.Delivery.TheVariants as deliveries
 use Rattle.tx_steps.specs.declared.call.Call.{Call}
@@ -39,7 +38,7 @@ use Rattle.tx_steps.specs.Steps.{Text}
 use Rattle.tx_network.specs.Networks.{may_go}
 use Rattle.tx_reply.specs.declared.reply.ScriptReply.{ScriptReply}
 use Rattle.tx_reply.specs.declared.reply.ScriptReply.TheVariants as reply
-use Rattle.tx_engine.specs.Semantics.{SlotState, free, session, EngineState, Transition, goes, shows, calls, began, seat_at, asked, came, first_free, lives, at_slot, live_at, is_too_many, edited, sends_by, delivered_by, delivers, finishes_by, begins_at, in_session, turn, learns, learnt, resolves_by, collected_as}
+use Rattle.tx_engine.specs.Semantics.{SlotState, free, session, EngineState, Transition, goes, shows, calls, began, seat_at, asked, came, first_free, lives, at_slot, live_at, is_too_many, edited, sends_by, delivers, finishes_by, begins_at, in_session, turn, learns, learnt, resolves_by, collected_as}
 use Rattle.tx_evidence.specs.Tells.{Entered, entered_by, WasGiven, WasFound, TellsAnswer, TellsBy}
 use Rattle.tx_evidence.specs.Buffers.{AllBy}
 use Rattle.tx_evidence.proofs.Buffers.{IsRefusal, EntersBy, all_more, puts_by, inserts_so, deletes_by, locks_by}
@@ -229,22 +228,22 @@ module _ (bounds : List Key) (entered : Entered) (engine : EngineState)
       ))
 
   -- what comes of a request of no session
-  alone_tells : (what : Step Text) (b : Body) → ((h : History) (a : Answer) → RespondsSo h b (response.Answered a)
+  alone_tells : (what : Step Text) (b : Body) → ((h : History) (a : Answer) → RespondsSo h b (Ok a)
       → TellsAnswer bounds entered h what a) → (refused : List Bool)
       → AllTell bounds (Replies bounds entered what)
-      (asked bounds refused engine b (λ c next rest. goes next (delivered_by c) rest))
-  alone_tells what b tell refused = asked_tells bounds (Replies bounds entered what) refused engine b (λ c next rest. goes next (delivered_by c) rest) on
+      (asked bounds refused engine b (λ c next rest. goes next (read_reply c) rest))
+  alone_tells what b tell refused = asked_tells bounds (Replies bounds entered what) refused engine b (λ c next rest. goes next (read_reply c) rest) on
     where
-      on : After bounds (Replies bounds entered what) engine b (λ c next rest. goes next (delivered_by c) rest)
-      on response.Lost next left since was = (tt, stay_on what next since)
-      on response.OutOfMemory next left since was = (tt, stay_on what next since)
-      on (response.Answered a) next left since was = (tell next.network.history a was, stay_on what next since)
+      on : After bounds (Replies bounds entered what) engine b (λ c next rest. goes next (read_reply c) rest)
+      on (Err miss.Lost) next left since was = (tt, stay_on what next since)
+      on (Err miss.Fault) next left since was = (tt, stay_on what next since)
+      on (Ok a) next left since was = (tell next.network.history a was, stay_on what next since)
 
   deliver_tells : (name : Text) (refused : List Bool) (o : Option Body)
       → AllTell bounds (Replies bounds entered (step.Deliver name)) (delivers bounds refused engine o)
   deliver_tells name refused None = tt
   deliver_tells name refused (Some b) = calls_tell (step.Deliver name) refused
-      (λ left. asked bounds left engine b (λ c next rest. goes next (delivered_by c) rest))
+      (λ left. asked bounds left engine b (λ c next rest. goes next (read_reply c) rest))
       (λ left. alone_tells (step.Deliver name) b (λ h a was. (b, was)) left)
 
   refused_tells : (safe : ℕ) (h : History) (f : Fault) → ByFault {A = Counts} h (Err f)
@@ -273,7 +272,7 @@ module _ (bounds : List Key) (entered : Entered) (engine : EngineState)
   turn_tells (step.Read key at) refused = or (step.Read key at) (not (is_key key)) _ _ (tt, stay (step.Read key at))
       (calls_tell (step.Read key at) refused
       (λ left. asked bounds left engine (request.Get (record { key = key; at = at; bypass = [] }))
-      (λ c next rest. goes next (delivered_by c) rest))
+      (λ c next rest. goes next (read_reply c) rest))
       (λ left. alone_tells (step.Read key at) (request.Get (record { key = key; at = at; bypass = [] }))
       (λ h a was. was) left))
   turn_tells (step.Versions key) refused = or (step.Versions key) (not (is_key key)) _ _ (tt, stay (step.Versions key))

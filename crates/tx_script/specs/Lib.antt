@@ -3,3 +3,4 @@ pub mod Players
 pub mod Checked
 pub mod Loops
 pub mod Numbered
+pub mod Stages

@@ -17,9 +17,11 @@ mod numbered;
 mod opening;
 mod player;
 mod script;
+mod stage;
 
 pub use opening::{bounds_in, simulate, simulate_checked, simulate_numbered};
 pub use player::Player;
 pub use tx_cells::{Makes, Plain};
 pub use tx_check::{check, check_with_reason};
+pub use tx_engine::SessionStage;
 pub use tx_text::{Broken, End};

@@ -18,10 +18,8 @@ use tx_machine::Step;
 use tx_text::{Broken, End, send};
 use tx_trace::Trace;
 
-/// Notes that the steps that came since the line before were taken during the line of this number:
-/// so many are kept now. Where memory for that is refused, or steps are kept no more, no numbers
-/// are noted any more.
-pub(crate) fn note_line(numbers: &mut Option<Vec<u64>>, number: u64, made: Option<usize>)
+// Notes them where numbers are noted.
+fn note_steps(numbers: &mut Option<Vec<u64>>, number: u64, made: Option<usize>)
     ensures { NotesLine number made (option_map (λ v. v.items) numbers.old) (option_map (λ v. v.items) numbers.new) }
 {
     let Some(count) = made else {
@@ -32,6 +30,18 @@ pub(crate) fn note_line(numbers: &mut Option<Vec<u64>>, number: u64, made: Optio
         if each.resize(count, number).is_err() {
             *numbers = None;
         }
+    }
+}
+
+/// Notes that the steps that came since the line before were taken during the line of this number:
+/// so many are kept now. Where memory for that is refused, or steps are kept no more, no numbers
+/// are noted any more.
+#[inline(always)]
+pub(crate) fn note_line(numbers: &mut Option<Vec<u64>>, number: u64, made: Option<usize>)
+    ensures { NotesLine number made (option_map (λ v. v.items) numbers.old) (option_map (λ v. v.items) numbers.new) }
+{
+    if numbers.is_some() {
+        note_steps(numbers, number, made);
     }
 }
 

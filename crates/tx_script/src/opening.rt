@@ -11,16 +11,17 @@ ghost use Rattle.tx_script.specs.Play.{EndsScript, BreaksScript};
 ghost use Rattle.tx_script.specs.Checked.{EndsChecked, BreaksChecked};
 ghost use Rattle.tx_script.specs.Numbered.{EndsNumbered, BreaksNumbered};
 ghost use Rattle.tx_script.specs.Loops.{Ahead, first_bounds, EndsAsked, BreaksAsked};
+ghost use Rattle.tx_script.specs.Stages.{NotesStage};
 
 use crate::asked::Asked;
-use crate::line::read_said;
 use crate::script::{check_over, number_over, simulate_over};
 use std::alloc::Global;
 use std::io::{BufRead, Write};
 use std::marker::Brand;
 use tx_cells::{Families, Makes, make_families};
-use tx_engine::{Engine, engine_of};
+use tx_engine::{Engine, SessionStage, engine_of};
 use tx_journal::{JournalId, Opened};
+use tx_steps::Line;
 use tx_text::{Broken, End, Found, Parts, read_line};
 use tx_types::Key;
 use tx_types::limits::MAX_LIVE_SESSIONS;
@@ -34,13 +35,14 @@ pub fn bounds_in(alloc: Global, line: &[u8]) -> Result<Vec<Key>, Broken>
     ensures err { IfErr result (λ why. why ≡ Broken.Memory) }
 {
     let mut parts = Parts::new();
-    match read_said(alloc, 1, line, &mut parts)? {
-        Err(_) => Ok(Vec::new(alloc)),
-        Ok(said) => match said.bounds(alloc) {
-            Err(_) => Err(Broken::Memory),
-            Ok(None) => Ok(Vec::new(alloc)),
+    match Line::read(alloc, 1, line, &mut parts) {
+        Ok(Ok(said)) => match said.bounds(alloc) {
             Ok(Some(bounds)) => Ok(bounds),
+            Ok(None) => Ok(Vec::new(alloc)),
+            Err(_) => Err(Broken::Memory),
         },
+        Ok(Err(_)) => Ok(Vec::new(alloc)),
+        Err(_) => Err(Broken::Memory),
     }
 }
 
@@ -91,6 +93,7 @@ fn over<J: JournalId, F: Families + Drop, R: BufRead, W: Write>(
     first: Found,
     line: &mut Vec<u8>,
     asked: Asked,
+    stage: &mut Option<SessionStage>,
 ) -> Result<End, Broken>
     requires named { (opened.table ≡ J.table) × (opened.bounds ≡ J.bounds) × (opened.seats ≡ J.seats) }
     requires few { vec_len families ≡ length opened.bounds + 1 }
@@ -99,15 +102,17 @@ fn over<J: JournalId, F: Families + Drop, R: BufRead, W: Write>(
     ensures ends { IfOk result (λ end. (lines : List (List ℕ))
         → Ahead first line.old.items (R.remaining reader.old) lines
         → EndsAsked asked opened.bounds lines (W.contents writer.old) (W.contents writer.new) end) }
+    ensures staged { IfOk result (λ _. (lines : List (List ℕ))
+        → Ahead first line.old.items (R.remaining reader.old) lines → NotesStage opened.bounds lines stage.new) }
     ensures breaks { IfErr result (λ why. (lines : List (List ℕ))
         → Ahead first line.old.items (R.remaining reader.old) lines
         → BreaksAsked asked opened.bounds why lines (W.contents writer.old) (W.contents writer.new)) }
 {
     let engine = engine_over::<J, F>(alloc, opened, families)?;
     match asked {
-        Asked::Replies => simulate_over(alloc, engine, reader, writer, first, line),
-        Asked::Steps => check_over(alloc, engine, reader, writer, first, line),
-        Asked::NumberedSteps => number_over(alloc, engine, reader, writer, first, line),
+        Asked::Replies => simulate_over(alloc, engine, reader, writer, first, line, stage),
+        Asked::Steps => check_over(alloc, engine, reader, writer, first, line, stage),
+        Asked::NumberedSteps => number_over(alloc, engine, reader, writer, first, line, stage),
     }
 }
 
@@ -118,10 +123,13 @@ fn play<F: Families + Drop, M: Makes<F>, R: BufRead, W: Write>(
     reader: &mut R,
     writer: &mut W,
     asked: Asked,
+    stage: &mut Option<SessionStage>,
 ) -> Result<End, Broken>
     ensures ends { IfOk result (λ end. IfSome (R.remaining reader.old)
         (λ input. EndsAsked asked (bounds_of (lines_of input)) (lines_of input) (W.contents writer.old)
         (W.contents writer.new) end)) }
+    ensures staged { IfOk result (λ _. IfSome (R.remaining reader.old)
+        (λ input. NotesStage (bounds_of (lines_of input)) (lines_of input) stage.new)) }
     ensures breaks { IfErr result (λ why. IfSome (R.remaining reader.old)
         (λ input. BreaksAsked asked (bounds_of (lines_of input)) why (lines_of input) (W.contents writer.old)
         (W.contents writer.new))) }
@@ -136,7 +144,7 @@ fn play<F: Families + Drop, M: Makes<F>, R: BufRead, W: Write>(
         return Err(Broken::Memory);
     };
     over::<Brand, F, R, W>(
-        alloc, opened, families, reader, writer, first, &mut line, asked,
+        alloc, opened, families, reader, writer, first, &mut line, asked, stage,
     )
 }
 
@@ -144,7 +152,9 @@ fn play<F: Families + Drop, M: Makes<F>, R: BufRead, W: Write>(
 /// Line 1 may say the keys between its regions; else there is one region. `make` gives each region
 /// its families. At most 256 sessions live at once. It ends well at the end of the input, and
 /// `Faulted` at the first line that is no step or that the script does not allow, whose reply names
-/// the cause.
+/// the cause. Where that line is a draw, a commit or an abort that its session may not make,
+/// `stage` then says how far that session is, which is why; else, and where memory to find that out
+/// was refused, it says nothing.
 ///
 /// `Input` where a read failed, `Output` where a write or the flush failed, `Memory` where a growth
 /// was refused outside of a step's own calls, for which the reply is E12.
@@ -153,15 +163,19 @@ pub fn simulate<F: Families + Drop, M: Makes<F>, R: BufRead, W: Write>(
     make: &M,
     reader: &mut R,
     writer: &mut W,
+    stage: &mut Option<SessionStage>,
 ) -> Result<End, Broken>
     // Not broken off, it has written the replies of what the script means, and nothing else.
     ensures ends { IfOk result (λ end. IfSome (R.remaining reader.old)
         (λ input. EndsScript input (W.contents writer.old) (W.contents writer.new) end)) }
+    // What it then says in `stage` is so where the script stopped, at a step out of order.
+    ensures staged { IfOk result (λ _. IfSome (R.remaining reader.old)
+        (λ input. NotesStage (bounds_of (lines_of input)) (lines_of input) stage.new)) }
     // Broken off, it has written a beginning of them: whole replies, unless a write failed.
     ensures breaks { IfErr result (λ why. IfSome (R.remaining reader.old)
         (λ input. BreaksScript why input (W.contents writer.old) (W.contents writer.new))) }
 {
-    play::<F, M, R, W>(alloc, make, reader, writer, Asked::Replies)
+    play::<F, M, R, W>(alloc, make, reader, writer, Asked::Replies, stage)
 }
 
 /// Plays a script as `simulate` does, and checks it: where it ended well, the steps of the machine
@@ -176,16 +190,20 @@ pub fn simulate_checked<F: Families + Drop, M: Makes<F>, R: BufRead, W: Write>(
     make: &M,
     reader: &mut R,
     writer: &mut W,
+    stage: &mut Option<SessionStage>,
 ) -> Result<End, Broken>
     // Not broken off, it has written the replies of what the script means, where it ended well the
     // machine's steps, and nothing else.
     ensures ends { IfOk result (λ end. IfSome (R.remaining reader.old)
         (λ input. EndsChecked input (W.contents writer.old) (W.contents writer.new) end)) }
+    // What it then says in `stage` is so where the script stopped.
+    ensures staged { IfOk result (λ _. IfSome (R.remaining reader.old)
+        (λ input. NotesStage (bounds_of (lines_of input)) (lines_of input) stage.new)) }
     // Broken off, it has written a beginning of that: whole lines, unless a write failed.
     ensures breaks { IfErr result (λ why. IfSome (R.remaining reader.old)
         (λ input. BreaksChecked why input (W.contents writer.old) (W.contents writer.new))) }
 {
-    play::<F, M, R, W>(alloc, make, reader, writer, Asked::Steps)
+    play::<F, M, R, W>(alloc, make, reader, writer, Asked::Steps, stage)
 }
 
 /// Plays a script as `simulate_checked` does, and writes each of the machine's steps beside the
@@ -198,15 +216,19 @@ pub fn simulate_numbered<F: Families + Drop, M: Makes<F>, R: BufRead, W: Write>(
     make: &M,
     reader: &mut R,
     writer: &mut W,
+    stage: &mut Option<SessionStage>,
 ) -> Result<End, Broken>
     // Not broken off, it has written the replies of what the script means, where it ended well the
     // same steps in the same order as `simulate_checked`, each beside the number of its line, and
     // nothing else.
     ensures ends { IfOk result (λ end. IfSome (R.remaining reader.old)
         (λ input. EndsNumbered input (W.contents writer.old) (W.contents writer.new) end)) }
+    // What it then says in `stage` is so where the script stopped.
+    ensures staged { IfOk result (λ _. IfSome (R.remaining reader.old)
+        (λ input. NotesStage (bounds_of (lines_of input)) (lines_of input) stage.new)) }
     // Broken off, it has written a beginning of that: whole lines, unless a write failed.
     ensures breaks { IfErr result (λ why. IfSome (R.remaining reader.old)
         (λ input. BreaksNumbered why input (W.contents writer.old) (W.contents writer.new))) }
 {
-    play::<F, M, R, W>(alloc, make, reader, writer, Asked::NumberedSteps)
+    play::<F, M, R, W>(alloc, make, reader, writer, Asked::NumberedSteps, stage)
 }

@@ -4,16 +4,18 @@ ghost use Rattle.serde_json.specs.Data.{Items};
 ghost use Rattle.tx_types.specs.declared.limits.TheConstants as limits;
 ghost use Rattle.tx_cells.specs.Contents.{nothing_held};
 ghost use Rattle.tx_reply.specs.Replies.{reply_words};
-ghost use Rattle.tx_engine.specs.Slots.{own};
+ghost use Rattle.tx_engine.specs.Slots.{engine_state, own};
 ghost use Rattle.tx_script.specs.Players.{PlayerState, HasPlayed, IsPlayer, IsFault, EndWellWith};
+ghost use Rattle.tx_script.specs.Stages.{line_stage};
 
 use crate::line::play_line;
 use crate::opening::engine_over;
 use crate::script::close;
+use crate::stage::line_stage;
 use std::alloc::Global;
 use std::marker::Model;
 use tx_cells::Families;
-use tx_engine::Engine;
+use tx_engine::{Engine, SessionStage};
 use tx_journal::{JournalId, Opened};
 use tx_reply::ScriptReply;
 use tx_text::Broken;
@@ -73,6 +75,17 @@ impl<J: JournalId, F: Families + Drop> Player<J, F> {
         ensures { result ≡ self.now.number }
     {
         self.number
+    }
+
+    /// How far the session is of the step that a line says, were it the next: where that step is a
+    /// draw, a commit or an abort, and the session is live. `Memory` where a growth was refused.
+    pub fn stage_at(&self, alloc: Global, line: &[u8]) -> Result<Option<SessionStage>, Broken>
+        requires { IsPlayer J.bounds self.now }
+        ensures ok { IfOk result (λ stage. stage
+            ≡ line_stage (engine_state self.now.engine) (self.now.number + 1) line.now) }
+        ensures err { IfErr result (λ why. why ≡ Broken.Memory) }
+    {
+        line_stage(alloc, &self.engine, self.number + 1, line)
     }
 
     /// Tries a line, without its newline, as the next of its script: its reply, or the cause why it

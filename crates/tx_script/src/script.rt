@@ -9,22 +9,25 @@ ghost use Rattle.tx_script.specs.Play.{EndsLines, BreaksLines};
 ghost use Rattle.tx_script.specs.Checked.{EndsCheckedLines, BreaksCheckedLines};
 ghost use Rattle.tx_script.specs.Numbered.{EndsNumberedLines, BreaksNumberedLines};
 ghost use Rattle.tx_script.specs.Loops.{Ahead, BetweenLines, EndsAt, BreaksAt, NumberedAt};
+ghost use Rattle.tx_script.specs.Stages.{NotesStage};
 
 use crate::checked::write_rest;
-use crate::line::{Turned, play_found, write_fault, write_reply};
+use crate::line::{Turned, play_found};
 use crate::numbered::{note_line, write_numbered};
+use crate::stage::fault_stage;
 use std::alloc::Global;
 use std::io::{BufRead, Write};
 use tx_cells::Families;
-use tx_engine::Engine;
+use tx_engine::{Engine, SessionStage};
 use tx_journal::JournalId;
-use tx_reply::REFUSAL_BYTES;
+use tx_reply::ReplyLine;
 use tx_text::{Broken, End, Found, finish, read_line};
 use tx_trace::Trace;
 use tx_types::limits::MAX_LINES;
 
 // Plays the lines that come next, one after another: the first is in `line`, as it was found. Where
-// that is asked, notes of each step that is kept the number of its line.
+// that is asked, notes of each step that is kept the number of its line; and of a fault in `stage`
+// how far its session is, where that is why.
 fn play_lines<J: JournalId, F: Families, R: BufRead, W: Write>(
     alloc: Global,
     engine: &mut Engine<J, F>,
@@ -33,6 +36,7 @@ fn play_lines<J: JournalId, F: Families, R: BufRead, W: Write>(
     first: Found,
     line: &mut Vec<u8>,
     numbers: &mut Option<Vec<u64>>,
+    stage: &mut Option<SessionStage>,
 ) -> Result<End, Broken>
     requires opening { IsOpening engine.old }
     requires slots { length engine.old.slots ≡ limits.MAX_LIVE_SESSIONS }
@@ -47,29 +51,33 @@ fn play_lines<J: JournalId, F: Families, R: BufRead, W: Write>(
     ensures breaks { IfErr result (λ why. length engine.new.network.newest ≤ own engine.new → (lines : List (List ℕ))
         → Ahead first line.old.items (R.remaining reader.old) lines
         → BreaksAt J.bounds lines why engine.new.network.newest (W.contents writer.old) (W.contents writer.new)) }
+    ensures staged { IfOk result (λ _. length engine.new.network.newest ≤ own engine.new → (lines : List (List ℕ))
+        → Ahead first line.old.items (R.remaining reader.old) lines → NotesStage J.bounds lines stage.new) }
     ensures numbered { IfOk result (λ end. end ≡ End.Well → length engine.new.network.newest ≤ own engine.new
         → IsWorldRun J.bounds engine.new.network.newest → IsTraced engine.old.network → (lines : List (List ℕ))
         → Ahead first line.old.items (R.remaining reader.old) lines
         → IfSome (option_map (λ v. v.items) numbers.new) (λ ns. NumberedAt J.bounds lines ns
         engine.new.network.newest (W.contents writer.old) (W.contents writer.new))) }
 {
-    let mut text = Vec::with_capacity(alloc, REFUSAL_BYTES)?;
+    let mut replies = ReplyLine::new(alloc)?;
     let mut number = 0;
     let mut found = first;
     'lines: loop {
         match play_found(alloc, engine, number + 1, found, line.as_slice())? {
             Turned::End => {
                 finish(writer)?;
+                *stage = None;
                 return Ok(End::Well);
             }
             Turned::Goes(reply) => {
                 number += 1;
                 note_line(numbers, number, engine.count_steps());
-                write_reply(writer, &mut text, number, &reply)?;
+                replies.write_reply(writer, number, &reply)?;
             }
             Turned::Stops(cause) => {
-                write_fault(writer, &mut text, number + 1, cause)?;
+                replies.write_fault(writer, number + 1, cause)?;
                 finish(writer)?;
+                *stage = fault_stage(alloc, engine, number + 1, line.as_slice(), cause);
                 return Ok(End::Faulted);
             }
         }
@@ -95,7 +103,8 @@ pub(crate) fn close<J: JournalId, F: Families + Drop>(engine: Engine<J, F>) -> O
 
 /// Plays the lines that come next in one thread, the first of which is in `line`, as it was found.
 /// What it has then written is the text of the only play of the lines, whose history is a run of
-/// the protocol; broken off, it has written a beginning of the text of the first lines.
+/// the protocol; broken off, it has written a beginning of the text of the first lines. Where a
+/// session may not draw, commit or abort, `stage` notes how far it is.
 pub(crate) fn simulate_over<J: JournalId, F: Families + Drop, R: BufRead, W: Write>(
     alloc: Global,
     engine: Engine<J, F>,
@@ -103,6 +112,7 @@ pub(crate) fn simulate_over<J: JournalId, F: Families + Drop, R: BufRead, W: Wri
     writer: &mut W,
     first: Found,
     line: &mut Vec<u8>,
+    stage: &mut Option<SessionStage>,
 ) -> Result<End, Broken>
     requires opening { IsOpening engine }
     requires slots { length engine.slots ≡ limits.MAX_LIVE_SESSIONS }
@@ -111,6 +121,8 @@ pub(crate) fn simulate_over<J: JournalId, F: Families + Drop, R: BufRead, W: Wri
     ensures ends { IfOk result (λ end. (lines : List (List ℕ))
         → Ahead first line.old.items (R.remaining reader.old) lines
         → EndsLines J.bounds lines (W.contents writer.old) (W.contents writer.new) end) }
+    ensures staged { IfOk result (λ _. (lines : List (List ℕ))
+        → Ahead first line.old.items (R.remaining reader.old) lines → NotesStage J.bounds lines stage.new) }
     ensures breaks { IfErr result (λ why. (lines : List (List ℕ))
         → Ahead first line.old.items (R.remaining reader.old) lines
         → BreaksLines J.bounds why lines (W.contents writer.old) (W.contents writer.new)) }
@@ -125,6 +137,7 @@ pub(crate) fn simulate_over<J: JournalId, F: Families + Drop, R: BufRead, W: Wri
         first,
         line,
         &mut numbers,
+        stage,
     );
     drop(close(engine));
     end
@@ -139,6 +152,7 @@ pub(crate) fn check_over<J: JournalId, F: Families + Drop, R: BufRead, W: Write>
     writer: &mut W,
     first: Found,
     line: &mut Vec<u8>,
+    stage: &mut Option<SessionStage>,
 ) -> Result<End, Broken>
     requires opening { IsOpening engine }
     requires slots { length engine.slots ≡ limits.MAX_LIVE_SESSIONS }
@@ -147,6 +161,8 @@ pub(crate) fn check_over<J: JournalId, F: Families + Drop, R: BufRead, W: Write>
     ensures ends { IfOk result (λ end. (lines : List (List ℕ))
         → Ahead first line.old.items (R.remaining reader.old) lines
         → EndsCheckedLines J.bounds lines (W.contents writer.old) (W.contents writer.new) end) }
+    ensures staged { IfOk result (λ _. (lines : List (List ℕ))
+        → Ahead first line.old.items (R.remaining reader.old) lines → NotesStage J.bounds lines stage.new) }
     ensures breaks { IfErr result (λ why. (lines : List (List ℕ))
         → Ahead first line.old.items (R.remaining reader.old) lines
         → BreaksCheckedLines J.bounds why lines (W.contents writer.old) (W.contents writer.new)) }
@@ -162,6 +178,7 @@ pub(crate) fn check_over<J: JournalId, F: Families + Drop, R: BufRead, W: Write>
         first,
         line,
         &mut numbers,
+        stage,
     );
     let trace = close(engine);
     let end = ended?;
@@ -177,6 +194,7 @@ pub(crate) fn number_over<J: JournalId, F: Families + Drop, R: BufRead, W: Write
     writer: &mut W,
     first: Found,
     line: &mut Vec<u8>,
+    stage: &mut Option<SessionStage>,
 ) -> Result<End, Broken>
     requires opening { IsOpening engine }
     requires slots { length engine.slots ≡ limits.MAX_LIVE_SESSIONS }
@@ -185,6 +203,8 @@ pub(crate) fn number_over<J: JournalId, F: Families + Drop, R: BufRead, W: Write
     ensures ends { IfOk result (λ end. (lines : List (List ℕ))
         → Ahead first line.old.items (R.remaining reader.old) lines
         → EndsNumberedLines J.bounds lines (W.contents writer.old) (W.contents writer.new) end) }
+    ensures staged { IfOk result (λ _. (lines : List (List ℕ))
+        → Ahead first line.old.items (R.remaining reader.old) lines → NotesStage J.bounds lines stage.new) }
     ensures breaks { IfErr result (λ why. (lines : List (List ℕ))
         → Ahead first line.old.items (R.remaining reader.old) lines
         → BreaksNumberedLines J.bounds why lines (W.contents writer.old) (W.contents writer.new)) }
@@ -200,6 +220,7 @@ pub(crate) fn number_over<J: JournalId, F: Families + Drop, R: BufRead, W: Write
         first,
         line,
         &mut numbers,
+        stage,
     );
     let trace = close(engine);
     let end = ended?;

@@ -14,7 +14,7 @@ pub fn simulate<R: BufRead, W: Write>(
     reader: &mut R,
     writer: &mut W,
 ) -> Result<End, Broken> {
-    tx_script::simulate::<FlatCells, _, _, _>(alloc, &Plain, reader, writer)
+    tx_script::simulate::<FlatCells, _, _, _>(alloc, &Plain, reader, writer, &mut None)
 }
 
 /// The same with its check.
@@ -23,7 +23,7 @@ pub fn simulate_checked<R: BufRead, W: Write>(
     reader: &mut R,
     writer: &mut W,
 ) -> Result<End, Broken> {
-    tx_script::simulate_checked::<FlatCells, _, _, _>(alloc, &Plain, reader, writer)
+    tx_script::simulate_checked::<FlatCells, _, _, _>(alloc, &Plain, reader, writer, &mut None)
 }
 
 // Checks that the script ends so, and that these replies alone are written.

@@ -9,16 +9,23 @@ use std::thread::Threads;
 use tx_command::{
     Asking, CommandEnd, Counted, Erasing, NotedFaults, Noting, Recent, Shared, reason,
 };
+use tx_script::SessionStage;
 use tx_text::Broken;
 
-// Says on standard error why lines are faults. What cannot be said there is left out: the line of
-// each fault is written all the same.
-fn explain<I>(asked: &Invocation<'_>, faults: &[NotedFaults], lines: &Recent<I>) {
+// Says on standard error why lines are faults, where a session's state is why by that state. What
+// cannot be said there is left out: the line of each fault is written all the same.
+fn explain<I>(
+    asked: &Invocation<'_>,
+    faults: &[NotedFaults],
+    stage: Option<SessionStage>,
+    lines: &Recent<I>,
+) {
     asked.progress.erase();
     let host = asked.host;
+    let state = stage.map(|stage| stage.as_str());
     'faults: for fault in faults {
         let line = lines.line(fault.number);
-        if let Ok(why) = reason(host.alloc(), asked.job.task, *fault, line) {
+        if let Ok(why) = reason(host.alloc(), asked.job.task, *fault, line, state) {
             let _ = eprintln!(host; "txkv: {why}");
         }
     }
@@ -79,9 +86,10 @@ where
         return Err(Broken::Memory);
     };
     let mut writer = Noting::new(alloc, Shared::new(&shared));
-    let ended = perform(rt, asked, &mut reader, &mut writer);
+    let mut stage = None;
+    let ended = perform(rt, asked, &mut reader, &mut writer, &mut stage);
     if !asked.is_talk() {
-        explain(asked, writer.faults(), &reader);
+        explain(asked, writer.faults(), stage, &reader);
     }
     if reader.inner().is_cut_off() {
         return Err(Broken::Output);

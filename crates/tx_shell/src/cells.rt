@@ -9,7 +9,7 @@ use tx_flat::FlatCells;
 use tx_nested::NestedCells;
 use tx_run::{Plain, RunResult, Settings, run_script};
 use tx_sched::Gate;
-use tx_script::{Broken, End, simulate, simulate_checked, simulate_numbered};
+use tx_script::{Broken, End, SessionStage, simulate, simulate_checked, simulate_numbered};
 use tx_terminal::converse;
 
 /// `txkv simulate`.
@@ -18,10 +18,11 @@ pub(crate) fn simulate_over<B: BufRead, W: Write>(
     cells: CellsKind,
     reader: &mut B,
     writer: &mut W,
+    stage: &mut Option<SessionStage>,
 ) -> Result<End, Broken> {
     match cells {
-        CellsKind::Flat => simulate::<FlatCells, _, _, _>(alloc, &Plain, reader, writer),
-        CellsKind::Nested => simulate::<NestedCells, _, _, _>(alloc, &Plain, reader, writer),
+        CellsKind::Flat => simulate::<FlatCells, _, _, _>(alloc, &Plain, reader, writer, stage),
+        CellsKind::Nested => simulate::<NestedCells, _, _, _>(alloc, &Plain, reader, writer, stage),
     }
 }
 
@@ -44,11 +45,14 @@ pub(crate) fn simulate_checked_over<B: BufRead, W: Write>(
     cells: CellsKind,
     reader: &mut B,
     writer: &mut W,
+    stage: &mut Option<SessionStage>,
 ) -> Result<End, Broken> {
     match cells {
-        CellsKind::Flat => simulate_checked::<FlatCells, _, _, _>(alloc, &Plain, reader, writer),
+        CellsKind::Flat => simulate_checked::<FlatCells, _, _, _>(
+            alloc, &Plain, reader, writer, stage,
+        ),
         CellsKind::Nested => simulate_checked::<NestedCells, _, _, _>(
-            alloc, &Plain, reader, writer,
+            alloc, &Plain, reader, writer, stage,
         ),
     }
 }
@@ -59,11 +63,14 @@ pub(crate) fn simulate_numbered_over<B: BufRead, W: Write>(
     cells: CellsKind,
     reader: &mut B,
     writer: &mut W,
+    stage: &mut Option<SessionStage>,
 ) -> Result<End, Broken> {
     match cells {
-        CellsKind::Flat => simulate_numbered::<FlatCells, _, _, _>(alloc, &Plain, reader, writer),
+        CellsKind::Flat => simulate_numbered::<FlatCells, _, _, _>(
+            alloc, &Plain, reader, writer, stage,
+        ),
         CellsKind::Nested => simulate_numbered::<NestedCells, _, _, _>(
-            alloc, &Plain, reader, writer,
+            alloc, &Plain, reader, writer, stage,
         ),
     }
 }

@@ -17,6 +17,7 @@ use tx_command::{CommandEnd, CommandTask, ExplainOptions, Steps};
 use tx_explain::{PictureForm, PictureOptions};
 use tx_recording::Orders;
 use tx_run::{RunResult, Settings};
+use tx_script::SessionStage;
 use tx_text::{Broken, End};
 
 // Tells what was played in so much time. What cannot be told is left out.
@@ -105,6 +106,7 @@ fn play<R, I, O>(
     asked: &Invocation<'_>,
     reader: &mut I,
     writer: &mut O,
+    stage: &mut Option<SessionStage>,
 ) -> Result<End, Broken>
 where
     R: AllocGlobal + Threads + Wait + Sync + Send + Clone + Drop,
@@ -117,13 +119,15 @@ where
         CommandTask::Simulate if asked.is_talk() => {
             converse_over(asked.host, cells, reader, writer)
         },
-        CommandTask::Simulate => simulate_over(alloc, cells, reader, writer),
-        CommandTask::SimulateChecked => simulate_checked_over(alloc, cells, reader, writer),
+        CommandTask::Simulate => simulate_over(alloc, cells, reader, writer, stage),
+        CommandTask::SimulateChecked => {
+            simulate_checked_over(alloc, cells, reader, writer, stage)
+        }
         CommandTask::SimulateSteps => {
-            simulate_checked_over(alloc, cells, reader, &mut Steps::new(writer))
+            simulate_checked_over(alloc, cells, reader, &mut Steps::new(writer), stage)
         }
         CommandTask::SimulateBeside => {
-            simulate_numbered_over(alloc, cells, reader, &mut Steps::new(writer))
+            simulate_numbered_over(alloc, cells, reader, &mut Steps::new(writer), stage)
         }
         CommandTask::Explain(told) => {
             explain_over(alloc, cells, picture_asked(told), reader, writer)
@@ -139,12 +143,14 @@ where
     }
 }
 
-/// Does what is asked over these streams.
+/// Does what is asked over these streams. Where a script stops at a step that its session may not
+/// make, `stage` says how far that session is.
 pub(crate) fn perform<R, I, O>(
     rt: &R,
     asked: &Invocation<'_>,
     reader: &mut I,
     writer: &mut O,
+    stage: &mut Option<SessionStage>,
 ) -> Result<CommandEnd, Broken>
 where
     R: AllocGlobal + Threads + Wait + Sync + Send + Clone + Drop,
@@ -165,6 +171,6 @@ where
             };
             judge(asked, options, reader, writer)
         }
-        _ => Ok(CommandEnd::of(play(rt, asked, reader, writer)?)),
+        _ => Ok(CommandEnd::of(play(rt, asked, reader, writer, stage)?)),
     }
 }

@@ -17,14 +17,12 @@ use Rattle.tx_core.proofs.seats.Beginnings.{extends_all, begins_more}
 use Rattle.tx_journal.specs.Known.{Known, HasSeen, HasRecorded, HasDrawn}
 use Rattle.tx_journal.specs.Replies.{Asked}
 use Rattle.tx_journal.proofs.Calls.{drawn_recorded}
-use Rattle.tx_transaction.specs.declared.state.Response.{Response}
-use Rattle.tx_transaction.specs.declared.state.Response.TheVariants.{Lost, OutOfMemory, Answered}
 use Rattle.tx_transaction.specs.declared.state.Miss.{Miss}
 use Rattle.tx_transaction.specs.declared.state.Phase.{Phase}
 use Rattle.tx_transaction.specs.declared.state.Due.{Due}
 use Rattle.tx_transaction.specs.Buffers.{buffered}
 use Rattle.tx_transaction.specs.Sessions.{SessionState, after_response, after_read, with_passed}
-use Rattle.tx_transaction.specs.Returns.{read}
+use Rattle.tx_transaction.specs.Returns.{Response}
 use Rattle.tx_journal.specs.Senders.{Reached}
 use Rattle.tx_client.specs.Learns.{response_of, Learns}
 use Rattle.tx_client.specs.Walks.{Walk, asks, grows, ends, then_walk, Sends, due_walk, part_by, part_walk, get_by, get_walk, enough, scan_after, scan_from, scan_walk, greater, lesser}
@@ -157,9 +155,8 @@ stays_itself : (s : SessionState) → Stays s s
 stays_itself s = record { start = refl; declared = refl; placed = refl }
 
 stays_response : (s : SessionState) (x : Phase) (i : ℕ) (c : Response) → Stays s (after_response s x i c)
-stays_response s x i Lost = record { start = refl; declared = refl; placed = refl }
-stays_response s x i OutOfMemory = record { start = refl; declared = refl; placed = refl }
-stays_response s x i (Answered a) = record { start = refl; declared = refl; placed = refl }
+stays_response s x i (Err why) = record { start = refl; declared = refl; placed = refl }
+stays_response s x i (Ok a) = record { start = refl; declared = refl; placed = refl }
 
 stays_due : (s : SessionState) (x : Phase) (due : Option Due)
     → EndsIn (λ (r : SessionState × Result (Option Answer) Miss). Stays s r.0) (due_walk s x due)
@@ -175,9 +172,8 @@ reads_itself : (s : SessionState) → Reads s s
 reads_itself s = record { stays = stays_itself s; buffer = refl }
 
 reads_response : (s : SessionState) (c : Response) → Reads s (after_read s c)
-reads_response s Lost = reads_itself s
-reads_response s OutOfMemory = reads_itself s
-reads_response s (Answered a) =
+reads_response s (Err why) = reads_itself s
+reads_response s (Ok a) =
     record { stays = record { start = refl; declared = refl; placed = refl }; buffer = refl }
 
 reads_more : (a b c : SessionState) → Reads a b → Reads b c → Reads a c
@@ -226,7 +222,7 @@ reads_part s t low high limit rows on keeps is = by (key_lt low high) refl
     by : (b : Bool) → key_lt low high ≡ b
         → EndsIn (HasRead s) (then_walk (part_walk t low high limit rows) (λ x. scan_after x.0 x.1 on))
     by true e = rw e (
-      (λ c. reads_after s (after_read t c) limit rows (read c) on keeps
+      (λ c. reads_after s (after_read t c) limit rows c on keeps
           (reads_more s t (after_read t c) is (reads_response t c))),
       is,
     )

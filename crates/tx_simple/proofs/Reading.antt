@@ -16,13 +16,11 @@ use Rattle.tx_core.proofs.seats.Beginnings.{begins_all}
 use Rattle.tx_journal.specs.Known.{Known}
 use Rattle.tx_journal.specs.Replies.{Asked}
 use Rattle.tx_journal.specs.Senders.{Reached, IsSender}
-use Rattle.tx_transaction.specs.declared.state.Response.{Response}
-use Rattle.tx_transaction.specs.declared.state.Response.TheVariants as response
 use Rattle.tx_transaction.specs.declared.state.Miss.{Miss}
 use Rattle.tx_transaction.specs.declared.state.Miss.TheVariants as miss
 use Rattle.tx_transaction.specs.Buffers.{buffered}
 use Rattle.tx_transaction.specs.Sessions.{SessionState, read_of, after_read}
-use Rattle.tx_transaction.specs.Returns.{read}
+use Rattle.tx_transaction.specs.Returns.{Response}
 use Rattle.tx_client.specs.Calls.{Seated}
 use Rattle.tx_client.specs.Facts.{WasAnswered, RespondsSo}
 use Rattle.tx_client.specs.Learns.{response_by, response_of, Learns}
@@ -74,17 +72,16 @@ module _ {S : Type 0} (bounds : List Key) (fits : S → Asked → Type 0) (sends
       → Finds entered h s.start key found) where
     by_response : (then_known : Known) → IsWorldRun bounds then_known.events → (c : Response)
         → RespondsSo then_known.events (read_of s key) c
-        → ◌≡◌ {A = Came} (after, Ok r) (after_read s c, read c) → AnswersRead entered then_known.events s.start key r
-    by_response then_known run response.Lost told e = absurd (missed_end after s r miss.Lost e)
-    by_response then_known run response.OutOfMemory told e = absurd (missed_end after s r miss.Fault e)
-    by_response then_known run (response.Answered x) told e =
+        → ◌≡◌ {A = Came} (after, Ok r) (after_read s c, c) → AnswersRead entered then_known.events s.start key r
+    by_response then_known run (Err why) told e = absurd (missed_end after s r why e)
+    by_response then_known run (Ok x) told e =
         subst (AnswersRead entered then_known.events s.start key)
-        (sym (same_end after (after_read s (response.Answered x)) r x e))
+        (sym (same_end after (after_read s (Ok x)) r x e))
         (seen_by bounds then_known.events run s key entered (same then_known.events) x told)
 
     by_reached : (then_known : Known) (mid : S) (reached : Reached)
         → sends a (record { by = k.events; body = read_of s key }) reached mid → Learns bounds k reached then_known
-        → ◌≡◌ {A = Came} (after, Ok r) (after_read s (response_of reached), read (response_of reached))
+        → ◌≡◌ {A = Came} (after, Ok r) (after_read s (response_of reached), response_of reached)
         → AnswersRead entered then_known.events s.start key r
     by_reached then_known mid (Err l) sent learns e = absurd (missed_end after s r miss.Lost e)
     by_reached then_known mid (Ok g) sent learns e =

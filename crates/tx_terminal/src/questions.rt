@@ -72,7 +72,13 @@ fn keys<F: Fresh>(alloc: Global, script: &[u8]) -> Result<Vec<u8>, Broken> {
         shown.extend_from_slice(b"]\n")?;
     }
     let mut replies = Vec::new(alloc);
-    simulate::<F, _, _, _>(alloc, &Plain, &mut shown.as_slice(), &mut replies)?;
+    simulate::<F, _, _, _>(
+        alloc,
+        &Plain,
+        &mut shown.as_slice(),
+        &mut replies,
+        &mut None,
+    )?;
     let replies = lines_of(alloc, replies.as_slice())?;
     let mut out = Vec::new(alloc);
     put_keys(
@@ -87,7 +93,7 @@ fn keys<F: Fresh>(alloc: Global, script: &[u8]) -> Result<Vec<u8>, Broken> {
 fn steps<F: Fresh>(alloc: Global, script: &[u8]) -> Result<Vec<u8>, Broken> {
     let mut out = Vec::new(alloc);
     let mut steps = Steps::new(&mut out);
-    simulate_checked::<F, _, _, _>(alloc, &Plain, &mut &*script, &mut steps)?;
+    simulate_checked::<F, _, _, _>(alloc, &Plain, &mut &*script, &mut steps, &mut None)?;
     Ok(out)
 }
 
@@ -157,7 +163,7 @@ fn sessions<F: Fresh>(alloc: Global, script: &[u8]) -> Result<Vec<u8>, Broken> {
     let lines = lines_of(alloc, script)?;
     let live = live_after(alloc, lines.as_slice())?;
     let mut replies = Vec::new(alloc);
-    simulate::<F, _, _, _>(alloc, &Plain, &mut &*script, &mut replies)?;
+    simulate::<F, _, _, _>(alloc, &Plain, &mut &*script, &mut replies, &mut None)?;
     let replies = lines_of(alloc, replies.as_slice())?;
     let mut out = Vec::new(alloc);
     'sessions: for session in &live {

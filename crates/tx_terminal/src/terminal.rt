@@ -12,7 +12,7 @@ use tx_cells::{Families, Fresh, make_families};
 use tx_command::{CommandTask, NotedFaults, reason};
 use tx_journal::{JournalId, Opened};
 use tx_reply::put_reply;
-use tx_script::{Broken, End, Plain, Player, bounds_in};
+use tx_script::{Broken, End, Plain, Player, SessionStage, bounds_in};
 use tx_text::{Found, finish, put_fault, read_line, send};
 use tx_types::Cause;
 use tx_types::limits::MAX_LIVE_SESSIONS;
@@ -51,8 +51,13 @@ impl<'a, I: BufRead, O: Write> Terminal<'a, I, O> {
         }
     }
 
-    // Tells that the line that was typed is a fault.
-    fn tell(&mut self, number: u64, cause: Cause) -> Result<(), Broken> {
+    // Tells that the line that was typed is a fault, and how far its session is where that is why.
+    fn tell(
+        &mut self,
+        number: u64,
+        cause: Cause,
+        stage: Option<SessionStage>,
+    ) -> Result<(), Broken> {
         let host = self.host;
         let mut text = Vec::new(host.alloc());
         put_fault(&mut text, number, cause)?;
@@ -60,7 +65,9 @@ impl<'a, I: BufRead, O: Write> Terminal<'a, I, O> {
         finish(self.writer)?;
         let fault = NotedFaults { number, cause };
         let line = self.line.as_slice();
-        if let Ok(why) = reason(host.alloc(), CommandTask::Simulate, fault, Some(line)) {
+        let state = stage.map(|stage| stage.as_str());
+        let task = CommandTask::Simulate;
+        if let Ok(why) = reason(host.alloc(), task, fault, Some(line), state) {
             let _ = eprintln!(host; "txkv: {why}");
         }
         Ok(())
@@ -72,7 +79,7 @@ impl<'a, I: BufRead, O: Write> Terminal<'a, I, O> {
             match read_line(self.reader, &mut self.line)? {
                 Found::End => return Ok(Typed::End),
                 Found::Long => {
-                    self.tell(number, Cause::Long)?;
+                    self.tell(number, Cause::Long, None)?;
                     return Ok(Typed::Long);
                 }
                 Found::Line if self.line.is_empty() => {}
@@ -98,7 +105,8 @@ impl<'a, I: BufRead, O: Write> Terminal<'a, I, O> {
         let alloc = self.host.alloc();
         match player.play(alloc, self.line.as_slice())? {
             Err(cause) => {
-                self.tell(player.number().saturating_add(1), cause)?;
+                let stage = player.stage_at(alloc, self.line.as_slice()).unwrap_or(None);
+                self.tell(player.number().saturating_add(1), cause, stage)?;
                 Ok(false)
             }
             Ok(reply) => {

@@ -8,3 +8,5 @@ pub mod Entries
 pub mod Turns
 -- A buffer in two parts: its first few entries, and those behind them.
 pub mod Parts
+-- The keys at the head of a buffer of which a phase has nothing left to send.
+pub mod Heads

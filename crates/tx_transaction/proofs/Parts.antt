@@ -122,7 +122,7 @@ progress_behind (e ∷ es) more zero j p is = absurd (omega (arith, is))
 progress_behind (e ∷ es) more (suc i) j p is =
     ap (λ (l : Entries). e ∷ l) (progress_behind es more i j p (omega (arith, is)))
 
-noted : (es : Entries) (i : ℕ) (v : BufferEntry) (p : Progress)
+pub noted : (es : Entries) (i : ℕ) (v : BufferEntry) (p : Progress)
     → Some v ≡ slice_get (values_of es) i
     → set_value_at es i (record { mutation = v.mutation; progress = p }) ≡ with_progress es i p
 noted [] i v p e = refl

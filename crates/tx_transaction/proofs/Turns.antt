@@ -1,5 +1,5 @@
 -- What is known of a fate stays, and which rollbacks are due.
-use Rattle.std.proofs.Common.{◌≡◌, ℕ, inl, inr, Bool, true, false, List, [], ◌∷◌, Option, Some, None, refl, sym, ap, ◌∙◌}
+use Rattle.std.proofs.Common.{◌≡◌, ℕ, inl, inr, Bool, true, false, List, [], ◌∷◌, Option, Some, None, Ok, Err, refl, sym, ap, ◌∙◌}
 use Rattle.tx_types.specs.declared.mutation.Mode.{Mode}
 use Rattle.tx_types.specs.declared.mutation.Mode.TheVariants.{TwoPhase, Async}
 use Rattle.tx_types.specs.declared.mutation.Fate.{Fate}
@@ -14,8 +14,7 @@ use Rattle.tx_transaction.specs.declared.state.Terms.{Terms}
 use Rattle.tx_transaction.specs.declared.state.Phase.{Phase}
 use Rattle.tx_transaction.specs.declared.state.Phase.TheVariants as phase
 use Rattle.tx_transaction.specs.declared.state.Due.{Due}
-use Rattle.tx_transaction.specs.declared.state.Response.{Response}
-use Rattle.tx_transaction.specs.declared.state.Response.TheVariants as response
+use Rattle.tx_transaction.specs.Returns.{Response}
 use Rattle.tx_transaction.specs.Buffers.{key_at, not_empty, first_index, promised}
 use Rattle.tx_transaction.specs.Sessions.{SessionState, marked, first_settled, committed_by, after_answer, after_response, after_read, with_passed, finish_by, finish_of, outcome_of, has_primary, prewrite_of, prewrite_at, due_prewrite, commit_of, commit_at, commit_drawn, commit_by, commit_if, due_commit, rollback_of, check_of, check_at, abort_of, abort_open, abort_by, due_abort}
 use Rattle.tx_transaction.specs.Turns.{SessionTurn, Enters, Declares, Draws, Hears, HearsRead, Passes, after_turn, after_turns, DecidesByPrimary, MayRollBack}
@@ -31,14 +30,12 @@ module _ (end : Fate) where
       ap (λ o. first_settled (first_settled o (fate_in a)) (committed_by (promised (marked s x i a)))) known
 
   stays_response : (s : SessionState) (x : Phase) (i : ℕ) (c : Response) → Knows s → Knows (after_response s x i c)
-  stays_response s x i response.Lost known = known
-  stays_response s x i response.OutOfMemory known = known
-  stays_response s x i (response.Answered a) known = stays_heard s x i a known
+  stays_response s x i (Err why) known = known
+  stays_response s x i (Ok a) known = stays_heard s x i a known
 
   stays_read : (s : SessionState) (c : Response) → Knows s → Knows (after_read s c)
-  stays_read s response.Lost known = known
-  stays_read s response.OutOfMemory known = known
-  stays_read s (response.Answered a) known = known
+  stays_read s (Err why) known = known
+  stays_read s (Ok a) known = known
 
   stays_passed : (s : SessionState) (t : ℕ) (may : Bool) → Knows s → Knows (with_passed s t may)
   stays_passed s t false known = known

@@ -3,3 +3,4 @@ pub mod Sessions
 pub mod Next
 pub mod Returns
 pub mod Turns
+pub mod Heads

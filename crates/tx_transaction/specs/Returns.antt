@@ -4,22 +4,17 @@ use Rattle.tx_types.specs.declared.mutation.Mutation.{Mutation}
 use Rattle.tx_types.specs.declared.mutation.Mutation.TheVariants as mutation
 use Rattle.tx_plan.specs.declared.answer.Answer.{Answer}
 use Rattle.tx_plan.specs.declared.answer.Answer.TheVariants as answer
-use Rattle.tx_transaction.specs.declared.state.Response.{Response}
-use Rattle.tx_transaction.specs.declared.state.Response.TheVariants as response
 use Rattle.tx_transaction.specs.declared.state.Miss.{Miss}
 use Rattle.tx_transaction.specs.declared.state.Miss.TheVariants as miss
 
+-- what came of a request: its answer, or why there is none
+abbrev pub Response : Type 0
+Response = Result Answer Miss
+
 -- no answer to a request is no answer of the call
 abbrev pub returned : Response → Result (Option Answer) Miss
-returned response.Lost = Err miss.Lost
-returned response.OutOfMemory = Err miss.Fault
-returned (response.Answered a) = Ok (Some a)
-
--- the same of a read
-abbrev pub read : Response → Result Answer Miss
-read response.Lost = Err miss.Lost
-read response.OutOfMemory = Err miss.Fault
-read (response.Answered a) = Ok a
+returned (Err why) = Err why
+returned (Ok a) = Ok (Some a)
 
 -- what the buffer answers to a read
 abbrev pub IsBuffered : Option Mutation → Option (Result Answer Miss) → Type 0

@@ -1,6 +1,6 @@
 -- The rules of a session: what is due of it, and how what came of a request changes it. All of them
 -- are functions of its state.
-use Rattle.std.specs.Prelude.{◌≡◌, ℕ, nat_lt, nat_eq, zero, suc, ◌&&◌, ◌||◌, not, Bool, true, false, cond, List, [], ◌∷◌, ◌++◌, length, Option, Some, None, is_some}
+use Rattle.std.specs.Prelude.{◌≡◌, ℕ, nat_lt, nat_eq, zero, suc, ◌&&◌, ◌||◌, not, Bool, true, false, cond, List, [], ◌∷◌, ◌++◌, length, Option, Some, None, Ok, Err, is_some}
 use Rattle.std.specs.List.{list_any}
 use Rattle.tx_types.specs.declared.limits.TheConstants.{MAX_ASYNC_KEYS}
 use Rattle.tx_types.specs.declared.key.Key.{Key}
@@ -28,8 +28,9 @@ use Rattle.tx_transaction.specs.declared.state.Progress.{Progress}
 use Rattle.tx_transaction.specs.declared.state.Due.{Due}
 use Rattle.tx_transaction.specs.declared.state.KeyRequest.{KeyRequest}
 use Rattle.tx_transaction.specs.declared.state.KeyRequest.TheVariants as key_request
-use Rattle.tx_transaction.specs.declared.state.Response.{Response}
-use Rattle.tx_transaction.specs.declared.state.Response.TheVariants as response
+use Rattle.tx_transaction.specs.Returns.{Response}
+use Rattle.tx_transaction.specs.declared.state.Miss.{Miss}
+use Rattle.tx_transaction.specs.declared.state.Miss.TheVariants as miss
 use Rattle.tx_transaction.specs.Buffers.{Entries, changes_of, keys_of, not_empty, key_at, mutation_in, progress_at, with_progress, first_index, has_two_phase_lock, promised}
 
 -- The state of a session: its start, its write buffer, the terms that it declared, the number
@@ -285,12 +286,6 @@ abbrev pub met_by : Answer → Option LockInfo → Option LockInfo
 met_by (answer.KeyIsLocked info) o = Some info
 met_by _ o = o
 
--- the lock that comes with what came of a request: the one that the answer names as in the way
-abbrev pub lock_met : Response → Option LockInfo
-lock_met response.Lost = None
-lock_met response.OutOfMemory = None
-lock_met (response.Answered a) = met_by a None
-
 -- an answer below the safe point tells nothing of the fate; each other answer clears the cause
 abbrev pub cause_of : Answer → Option UnknownCause
 cause_of (answer.BelowSafePoint n) = Some cause.BelowSafePoint
@@ -320,9 +315,14 @@ marked_by _ _ p = p
 abbrev pub with_sent : SessionState → Phase → ℕ → Entries
 with_sent s x i = with_progress s.buffer i (sent_by x (progress_at s.buffer i))
 
--- no answer came, for this cause
-abbrev pub missed : SessionState → Phase → ℕ → UnknownCause → SessionState
-missed s x i why = record s { buffer = with_sent s x i; cause = Some why }
+-- why the fate is not known where no answer came
+abbrev pub cause_by : Miss → UnknownCause
+cause_by miss.Lost = cause.Reply
+cause_by miss.Fault = cause.OutOfMemory
+
+-- no answer came
+abbrev pub missed : SessionState → Phase → ℕ → Miss → SessionState
+missed s x i why = record s { buffer = with_sent s x i; cause = Some (cause_by why) }
 
 -- the buffer after the request of an index was answered so
 abbrev pub marked : SessionState → Phase → ℕ → Answer → Entries
@@ -341,15 +341,13 @@ after_answer s x i a = record s {
 
 -- the state after a request of a phase
 abbrev pub after_response : SessionState → Phase → ℕ → Response → SessionState
-after_response s x i response.Lost = missed s x i cause.Reply
-after_response s x i response.OutOfMemory = missed s x i cause.OutOfMemory
-after_response s x i (response.Answered a) = after_answer s x i a
+after_response s x i (Err why) = missed s x i why
+after_response s x i (Ok a) = after_answer s x i a
 
 -- the state after a read
 abbrev pub after_read : SessionState → Response → SessionState
-after_read s response.Lost = s
-after_read s response.OutOfMemory = s
-after_read s (response.Answered a) = record s { met = met_by a s.met }
+after_read s (Err why) = s
+after_read s (Ok a) = record s { met = met_by a s.met }
 
 -- ---- what a resolver found
 

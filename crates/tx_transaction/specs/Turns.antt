@@ -5,7 +5,7 @@ use Rattle.tx_types.specs.declared.mutation.Fate.TheVariants as fate
 use Rattle.tx_plan.specs.declared.body.BatchRollback.{BatchRollback}
 use Rattle.tx_transaction.specs.declared.state.Terms.{Terms}
 use Rattle.tx_transaction.specs.declared.state.Phase.{Phase}
-use Rattle.tx_transaction.specs.declared.state.Response.{Response}
+use Rattle.tx_transaction.specs.Returns.{Response}
 use Rattle.tx_transaction.specs.Buffers.{Entries, key_at}
 use Rattle.tx_transaction.specs.Sessions.{SessionState, after_response, after_read, with_passed}
 

@@ -1,5 +1,5 @@
 //! The write buffer: keys in the order in which they were first touched.
-ghost use Rattle.std.specs.Prelude.{◌≡◌, ◌<◌, ◌≤◌, not, length, is_some, IfOk, IfErr, IfSome, OnOk, OnErr, max, option_map, bytes_eq};
+ghost use Rattle.std.specs.Prelude.{◌≡◌, ◌<◌, ◌≤◌, ℕ, true, false, not, length, is_some, IfOk, IfErr, IfSome, IfNone, OnOk, OnErr, max, option_map, bytes_eq};
 ghost use Rattle.tx_machine.specs.Keys.{IsDistinct};
 ghost use Rattle.tx_types.specs.declared.mutation.Mode.TheVariants.{Async};
 ghost use Rattle.tx_transaction.specs.Buffers.{key_at, mutation_in, progress_at, with_progress, first_index, wants, is_full, is_known, not_empty, changes_of, touched, buffered, put_over, insert_over, inserted, has_two_phase_lock, async_minimum, promised, is_zero};
@@ -7,6 +7,7 @@ ghost use Rattle.tx_transaction.specs.Sessions.{others_at, sent_by, marked_by};
 
 use crate::answers::{mark, mark_sent};
 use crate::key_entries::KeyEntries;
+use crate::settled::wants_more;
 use crate::state::{Phase, Progress};
 use std::alloc::Global;
 use tx_core::Answer;
@@ -121,14 +122,20 @@ pub(crate) fn can_insert(buffer: &Buffer, key: &[u8]) -> bool
     }
 }
 
-fn wants_more(phase: Phase, progress: Progress) -> bool
-    ensures { result ≡ wants phase progress }
+// The index of the first key between two indexes of which the phase has something left to send.
+fn index_between(buffer: &Buffer, phase: Phase, from: usize, to: usize) -> Option<usize>
+    requires { to ≤ length buffer.now }
+    ensures found { IfSome result (λ i. (i < to) × (wants phase (progress_at buffer.now i) ≡ true)
+        × ((k : ℕ) → from ≤ k → k < i → wants phase (progress_at buffer.now k) ≡ false)) }
+    ensures absent { IfNone result ((k : ℕ) → from ≤ k → k < to
+        → wants phase (progress_at buffer.now k) ≡ false) }
 {
-    match phase {
-        Phase::Prewrite => progress.accepted.is_none(),
-        Phase::Commit => !progress.committed,
-        Phase::Abort => progress.sent && !progress.rolled,
+    for i in from..to {
+        if wants_more(phase, progress_of(buffer, i)) {
+            return Some(i);
+        }
     }
+    None
 }
 
 /// The index of the first key of which the phase has something left to send.
@@ -136,12 +143,11 @@ pub(crate) fn index_of(buffer: &Buffer, phase: Phase) -> Option<usize>
     ensures index { result ≡ first_index phase buffer.now }
     ensures within { IfSome result (λ i. i < length buffer.now) }
 {
-    for i in 0..buffer.len() {
-        if wants_more(phase, progress_of(buffer, i)) {
-            return Some(i);
-        }
+    let (settled, open) = buffer.settled(phase);
+    if let Some(i) = index_between(buffer, phase, 0, settled) {
+        return Some(i);
     }
-    None
+    index_between(buffer, phase, open, buffer.len())
 }
 
 /// The key at an index.
@@ -197,7 +203,7 @@ pub(crate) fn note(buffer: &mut Buffer, i: usize, phase: Phase, answer: &Answer)
 {
     let mut progress = progress_of(buffer, i);
     mark(phase, answer, &mut progress);
-    buffer.set_progress(i, progress);
+    buffer.set_progress(phase, i, progress);
 }
 
 /// Notes that a request was sent for the key at an index.
@@ -208,7 +214,7 @@ pub(crate) fn note_sent(buffer: &mut Buffer, i: usize, phase: Phase)
 {
     let mut progress = progress_of(buffer, i);
     mark_sent(phase, &mut progress);
-    buffer.set_progress(i, progress);
+    buffer.set_progress(phase, i, progress);
 }
 
 pub(crate) fn has_keys(buffer: &Buffer) -> bool

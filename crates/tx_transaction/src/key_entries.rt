@@ -1,11 +1,12 @@
 //! The entries of a write buffer: keys in the order in which they were first touched, the first few
 //! in a list, and what comes behind these in a table.
-ghost use Rattle.std.specs.Prelude.{◌≡◌, ◌<◌, ◌↔◌, ℕ, [], true, false, length, slice_get, IsSome, IsTrue, IfErr, IfSome, IfNone, OnOk, OnErr, option_map, bytes_eq};
+ghost use Rattle.std.specs.Prelude.{◌≡◌, ◌<◌, ◌≤◌, ◌↔◌, ℕ, [], true, false, length, slice_get, IsSome, IsTrue, IfErr, IfSome, IfNone, OnOk, OnErr, option_map, bytes_eq};
 ghost use Rattle.std.specs.Map.Iter.{deref_pair};
 ghost use Rattle.tx_machine.specs.Keys.{IsDistinct};
-ghost use Rattle.tx_transaction.specs.Buffers.{buffered, changes_of, key_at, touched, with_progress};
+ghost use Rattle.tx_transaction.specs.Buffers.{buffered, changes_of, key_at, progress_at, touched, wants, with_progress};
 
-use crate::state::{BufferEntry, Progress};
+use crate::settled::Settled;
+use crate::state::{BufferEntry, Phase, Progress};
 use indexmap::IndexMap;
 use std::alloc::Global;
 use std::marker::Model;
@@ -47,12 +48,15 @@ pub(crate) struct KeyEntries {
     few: Vec<(Key, BufferEntry)>,
     /// Those behind them: none while there is room among the few.
     more: IndexMap<Key, BufferEntry>,
+    /// Those of the table, from the first on, of which a phase has nothing left to send.
+    settled: Settled,
 }
 
 impl Model for KeyEntries {
     ghost use Rattle.std.specs.Prelude.{◌≡◌, ◌≤◌, ◌++◌, ◌⊎◌, [], length};
     ghost use Rattle.tx_machine.specs.Keys.{IsDistinct};
     ghost use Rattle.tx_transaction.specs.Buffers.{Entries, changes_of};
+    ghost use Rattle.tx_transaction.specs.Heads.{IsSettled};
     ghost use Rattle.tx_transaction.specs.declared.key_entries.TheConstants.{FEW};
 
     ghost Value = { Entries };
@@ -60,12 +64,17 @@ impl Model for KeyEntries {
     ghost view = { λ b. b.few.items ++ b.more.entries };
 
     ghost invariant = { λ b. IsDistinct (changes_of (b.few.items ++ b.more.entries))
-        × ((b.more.entries ≡ []) ⊎ (FEW ≤ length b.few.items)) };
+        × ((b.more.entries ≡ []) ⊎ (FEW ≤ length b.few.items))
+        × IsSettled b.settled b.more.entries };
 }
 
 impl Drop for KeyEntries {
     fn drop(self) {
-        let Self { few: _, more: _ } = self;
+        let Self {
+            few: _,
+            more: _,
+            settled: _,
+        } = self;
     }
 }
 
@@ -77,6 +86,7 @@ impl KeyEntries {
         KeyEntries {
             few: Vec::new(alloc),
             more: IndexMap::new(alloc),
+            settled: Settled::NONE,
         }
     }
 
@@ -149,11 +159,23 @@ impl KeyEntries {
             return Ok(());
         }
         self.more.insert(key, entry)?;
+        self.settled = Settled::NONE;
         Ok(())
     }
 
-    /// Sets how far the key at an index is.
-    pub(crate) fn set_progress(&mut self, i: usize, progress: Progress)
+    /// The indexes from one up to another, of whose keys a phase is known to have nothing left to
+    /// send.
+    pub(crate) fn settled(&self, phase: Phase) -> (usize, usize)
+        ensures within { result.0 ≤ length self.now }
+        ensures settled { (k : ℕ) → result.0 ≤ k → k < result.1 → wants phase (progress_at self.now k) ≡ false }
+    {
+        let few = self.few.len();
+        let keys = self.settled.keys(phase);
+        (few, few.saturating_add(keys))
+    }
+
+    /// Sets how far the key at an index is, of which the phase sent a request.
+    pub(crate) fn set_progress(&mut self, phase: Phase, i: usize, progress: Progress)
         requires { i < length self.old }
         ensures { self.new ≡ with_progress self.old i progress }
     {
@@ -161,6 +183,7 @@ impl KeyEntries {
         if i < few {
             self.few[i].1.progress = progress;
         } else if let Some(entry) = self.more.get_index_mut(i - few) {
+            self.settled = self.settled.after(phase, i - few, &progress);
             entry.progress = progress;
         }
     }

@@ -6,9 +6,10 @@ mod answers;
 mod buffer;
 mod key_entries;
 mod laws;
+mod settled;
 mod state;
 mod transaction;
 
 pub use laws::{decision_stays, rollback_once_aborted};
-pub use state::{BufferEntry, Due, Miss, Phase, Progress, Response, Terms};
+pub use state::{BufferEntry, Due, Miss, Phase, Progress, Terms};
 pub use transaction::Transaction;

@@ -1,5 +1,5 @@
 //! What a session keeps of its transaction.
-use tx_plan::{Answer, Body};
+use tx_plan::Body;
 use tx_types::{Mode, Mutation, Ts};
 
 /// How a transaction commits.
@@ -40,18 +40,7 @@ pub struct BufferEntry {
     pub progress: Progress,
 }
 
-/// What came of a request.
-#[derive(Debug, Drop)]
-pub enum Response {
-    /// No reply.
-    Lost,
-    /// A reply without an answer: the region was refused memory.
-    OutOfMemory,
-    /// An answer.
-    Answered(Answer),
-}
-
-/// Why a call has no answer.
+/// Why a request has no answer, or a call.
 #[derive(Clone, Copy, Debug, PartialEq, Eq)]
 pub enum Miss {
     /// No reply came.

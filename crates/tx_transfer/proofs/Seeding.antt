@@ -20,8 +20,7 @@ use Rattle.tx_transaction.specs.declared.state.Miss.{Miss}
 use Rattle.tx_transaction.specs.declared.state.Phase.{Phase}
 use Rattle.tx_transaction.specs.declared.state.Due.{Due}
 use Rattle.tx_transaction.specs.declared.state.Progress.{Progress}
-use Rattle.tx_transaction.specs.declared.state.Response.{Response}
-use Rattle.tx_transaction.specs.declared.state.Response.TheVariants as response
+use Rattle.tx_transaction.specs.Returns.{Response}
 use Rattle.tx_transaction.specs.declared.state.Terms.{Terms}
 use Rattle.tx_transaction.specs.Buffers.{Entries, buffered, changes_of, put_over, touched, with_progress}
 use Rattle.tx_transaction.specs.Sessions.{SessionState, after_response, begun, declaration}
@@ -43,9 +42,8 @@ pub keeps_same : (s next : SessionState) → next ≡ s → KeepsPut s next
 keeps_same s next is key value just = subst (λ (t : SessionState). PutsJust key value t) (sym is) just
 
 keeps_response : (s : SessionState) (x : Phase) (i : ℕ) (c : Response) → KeepsPut s (after_response s x i c)
-keeps_response s x i response.Lost key value just = (just.0, changes_with s.buffer i _ ∙ just.1)
-keeps_response s x i response.OutOfMemory key value just = (just.0, changes_with s.buffer i _ ∙ just.1)
-keeps_response s x i (response.Answered a) key value just = (just.0, changes_with s.buffer i _ ∙ just.1)
+keeps_response s x i (Err why) key value just = (just.0, changes_with s.buffer i _ ∙ just.1)
+keeps_response s x i (Ok a) key value just = (just.0, changes_with s.buffer i _ ∙ just.1)
 
 -- as a request that is due is sent, whichever way
 module _ {S : Type 0} (sends : S → Asked → Reached → S → Type 0) (bounds : List Key) where

@@ -8,10 +8,8 @@ use Rattle.tx_plan.specs.declared.answer.Answer.TheVariants.{Rows}
 use Rattle.tx_journal.specs.Known.{Known}
 use Rattle.tx_journal.specs.Replies.{Asked}
 use Rattle.tx_journal.specs.Senders.{Reached}
-use Rattle.tx_transaction.specs.declared.state.Response.{Response}
-use Rattle.tx_transaction.specs.declared.state.Response.TheVariants as response
 use Rattle.tx_transaction.specs.declared.state.Miss.{Miss}
-use Rattle.tx_transaction.specs.Returns.{read}
+use Rattle.tx_transaction.specs.Returns.{Response}
 use Rattle.tx_transaction.specs.Sessions.{SessionState, after_read, with_passed}
 use Rattle.tx_client.specs.Learns.{response_of}
 use Rattle.tx_client.specs.Walks.{Walk, asks, grows, ends, then_walk, Sends, part_by, part_walk, enough, scan_after, scan_from, scan_walk, greater, lesser}
@@ -33,9 +31,8 @@ module _ {S : Type 0} (sends : S → Asked → Reached → S → Type 0) (bounds
       sent_ends at (more (response_of reached)) now new mid to r (all (response_of reached)) rest
 
 read_start : (s : SessionState) (c : Response) → (after_read s c).start ≡ s.start
-read_start s response.Lost = refl
-read_start s response.OutOfMemory = refl
-read_start s (response.Answered a) = refl
+read_start s (Err why) = refl
+read_start s (Ok a) = refl
 
 pub passed_start : (s : SessionState) (t : ℕ) (may : Bool) → (with_passed s t may).start ≡ s.start
 passed_start s t false = refl
@@ -67,7 +64,7 @@ module _ (at : ℕ) where
       by : (b : Bool) → key_lt low high ≡ b
           → EndsAt at (then_walk (part_walk t low high limit rows) (λ x. scan_after x.0 x.1 on))
       by true e = rw e (
-        (λ c. start_after (after_read t c) limit rows (read c) on keeps (read_start t c ∙ is)),
+        (λ c. start_after (after_read t c) limit rows c on keeps (read_start t c ∙ is)),
         is,
       )
       by false e = rw e (keeps t rows is, is)

@@ -4,11 +4,14 @@
 #![tactic(auto)]
 
 mod balance;
+mod changes;
 mod collector;
 mod context;
+mod lock_slots;
 mod operations;
 mod order;
 mod plain_reply;
+mod progress;
 mod refusals;
 mod requests;
 mod seeds;
@@ -19,11 +22,13 @@ mod transfer;
 pub use balance::{BALANCES, MAX_DIGITS, after_transfer, balance_of, value_of};
 pub use collector::Collector;
 pub use context::Context;
+pub use lock_slots::slots_of;
 pub use operations::{act, refused, reply_to, send};
 pub use order::Order;
 pub use plain_reply::PlainReply;
+pub use progress::TransferProgress;
 pub use refusals::Refusals;
 pub use seeds::seed;
 pub use source::Source;
 pub use total::read_total;
-pub use transfer::{TransferProgress, TransferState, slots_of};
+pub use transfer::TransferState;

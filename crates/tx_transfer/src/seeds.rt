@@ -8,9 +8,9 @@ ghost use Rattle.tx_transaction.specs.Sessions.{begun, is_declared};
 ghost use Rattle.tx_core.specs.Histories.{Begins};
 ghost use Rattle.tx_transfer.specs.Seeds.{IsWriteFault, IsTextFault, IsSeedFault, KeepsPut, PutsJust, WasSeeded};
 
+use crate::changes::TTL;
 use crate::context::Context;
 use crate::requests;
-use crate::transfer::TTL;
 use std::alloc::Global;
 use std::sync::Wait;
 use tx_cells::Families;

@@ -1,24 +1,26 @@
 //! A transfer: a transaction that reads the balances of two keys and moves an amount from the first
 //! to the second. Its reads are one step, which asks for no latch, and its writes another, which
 //! asks for those of both keys. A lock in its way is resolved in a step of its own.
-ghost use Rattle.std.specs.Prelude.{◌≡◌, ◌<◌, ℕ, List, ◌++◌, false, Some, IfOk, IfErr, OnOk, OnErr};
+ghost use Rattle.std.specs.Prelude.{◌≡◌, ◌<◌, ℕ, List, ◌++◌, Some, IfErr, OnOk};
 ghost use Rattle.tx_types.specs.declared.fault.Fault.TheVariants as fault;
-ghost use Rattle.tx_transaction.specs.Sessions.{begun, is_declared};
-ghost use Rattle.tx_transfer.specs.Slots.{slots_of};
+ghost use Rattle.tx_transaction.specs.Sessions.{begun};
 ghost use Rattle.tx_transfer.specs.Sources.{HasPair};
-ghost use Rattle.tx_transfer.specs.Transfers.{HasEntered, Moves};
+ghost use Rattle.tx_transfer.specs.Transfers.{Moves};
 ghost use Rattle.tx_transfer.specs.declared.balance.TheConstants.{BALANCES};
 
-use crate::balance::{after_transfer, balance_of, value_of};
+use crate::balance::{after_transfer, balance_of};
+use crate::changes::declare;
 use crate::context::Context;
+use crate::lock_slots::slots_of;
 use crate::order::Order;
+use crate::progress::TransferProgress;
 use crate::requests;
 use crate::source::Source;
 use std::alloc::Global;
 use std::marker::Model;
 use std::sync::Wait;
 use tx_cells::Families;
-use tx_client::{Miss, Phase, Session, Terms};
+use tx_client::{Miss, Phase, Session};
 use tx_core::Answer;
 use tx_journal::JournalId;
 use tx_latch::{Slot, slot_of};
@@ -29,9 +31,6 @@ const TRIES: u32 = 16;
 
 /// How many requests a step makes at most.
 const REQUESTS: u32 = 16;
-
-/// How long its locks live, in ticks.
-pub(crate) const TTL: u32 = 64;
 
 // What it does next.
 #[derive(Clone, Copy, Debug, PartialEq, Eq)]
@@ -50,19 +49,6 @@ enum TransferLatches {
     Nothing,
     Keys,
     Met,
-}
-
-/// What comes of a request, and of a step.
-#[derive(Clone, Copy, Debug, PartialEq, Eq)]
-pub enum TransferProgress {
-    /// It goes on.
-    More,
-    /// It is over: the session is to be finished.
-    Over,
-    /// Its seat's ticks are spent.
-    Spent,
-    /// Memory was refused to the session.
-    OutOfMemory,
 }
 
 /// A transfer on its way: a session that writes its two keys. Contracts see the number of its line.
@@ -178,58 +164,6 @@ impl<J: JournalId, L: Source> TransferState<J, L> {
             Err(_) => TransferProgress::OutOfMemory,
         }
     }
-}
-
-/// The slots of a lock, its primary and the keys that it lists.
-pub fn slots_of(alloc: Global, info: &LockInfo) -> Result<Vec<Slot>, Fault>
-    ensures ok { IfOk result (λ slots. slots.items ≡ slots_of info.now) }
-    ensures err { IfErr result (λ e. e ≡ fault.OutOfMemory) }
-{
-    let mut slots = Vec::new(alloc);
-    slots.push(slot_of(&info.facts().key))?;
-    slots.push(slot_of(&info.facts().primary))?;
-    for key in info.facts().secondaries.as_slice() {
-        slots.push(slot_of(key))?;
-    }
-    Ok(slots)
-}
-
-// Enters a balance of a key.
-fn enter<J: JournalId>(
-    session: &mut Session<J>,
-    alloc: Global,
-    key: &Key,
-    balance: u64,
-) -> Result<(), Fault>
-    requires declared { is_declared session.old.state ≡ false }
-    requires most { balance < BALANCES }
-    ensures entered { OnOk result (HasEntered session.old.state key.now session.new.state) }
-    ensures same { OnErr result (session.new ≡ session.old) }
-{
-    let value = value_of(alloc, balance)?;
-    session.put(key.clone()?, value)
-}
-
-// Enters both changes, and declares them.
-fn declare<J: JournalId, L: Source>(
-    session: &mut Session<J>,
-    alloc: Global,
-    order: &Order<L>,
-    left: (u64, u64),
-) -> Result<(), Fault>
-    requires declared { is_declared session.old.state ≡ false }
-    requires most { (left.0 < BALANCES) × (left.1 < BALANCES) }
-    requires moves { Moves order.now.from order.now.to session.old.state }
-    ensures moves { Moves order.now.from order.now.to session.new.state }
-{
-    let (from, to) = left;
-    enter(session, alloc, &order.from, from)?;
-    enter(session, alloc, &order.to, to)?;
-    session.declare(Terms {
-        mode: order.mode,
-        ttl: TTL,
-        max_commit: None,
-    })
 }
 
 // The key that is read in this phase.

@@ -3,7 +3,7 @@ ghost use Rattle.std.specs.Prelude.{◌≡◌, ◌<◌, length, true, Some, IfOk
 ghost use Rattle.tx_types.specs.declared.fault.Fault.TheVariants as fault;
 ghost use Rattle.tx_core.specs.Allowed.{Allowed};
 ghost use Rattle.tx_transaction.specs.declared.state.Phase.TheVariants as phase;
-ghost use Rattle.tx_transaction.specs.Sessions.{is_declared, has_primary, lock_met, due_prewrite, due_commit, due_abort, can_draw, can_commit, can_abort};
+ghost use Rattle.tx_transaction.specs.Sessions.{is_declared, has_primary, due_prewrite, due_commit, due_abort, can_draw, can_commit, can_abort};
 ghost use Rattle.tx_transaction.specs.Next.{due};
 ghost use Rattle.tx_journal.specs.Senders.{IsHeld, IsSender};
 ghost use Rattle.tx_client.specs.Walks.{Sends, due_walk, heartbeat_walk};
@@ -11,11 +11,11 @@ ghost use Rattle.tx_client.specs.Facts.{RespondsSo, IsFor};
 ghost use Rattle.tx_client.specs.Calls.{Draws, Asks};
 
 use super::Session;
-use crate::requests::{Answering, ask_with_lock};
+use crate::requests::ask_with_lock;
 use std::alloc::Global;
 use tx_core::{Answer, Body};
-use tx_journal::{JournalId, Reply, Request, Sender};
-use tx_transaction::{Due, Miss, Phase, Response};
+use tx_journal::{AnswerWithLock, JournalId, Reply, Request, Sender};
+use tx_transaction::{Due, Miss, Phase};
 use tx_types::{Fault, Ts};
 
 impl<J: JournalId> Session<J> {
@@ -25,14 +25,13 @@ impl<J: JournalId> Session<J> {
         &mut self,
         body: Body,
         sender: &mut S,
-    ) -> Answering
+    ) -> Result<AnswerWithLock, Miss>
         requires way { IsSender J.bounds S.fits S.sends S.keys_between }
         requires held { IsHeld J.bounds body }
         requires allowed { Allowed self.old.seat.events body }
         ensures state { self.new.state ≡ self.old.state }
-        ensures asked { Asks S.sends J.bounds self.old.seat body sender.old sender.new result.response self.new.seat }
-        ensures told { RespondsSo self.new.seat.events body result.response }
-        ensures lock { result.lock ≡ lock_met result.response }
+        ensures asked { Asks S.sends J.bounds self.old.seat body sender.old sender.new result self.new.seat }
+        ensures told { RespondsSo self.new.seat.events body result }
     {
         ask_with_lock(&mut self.seat, body, sender)
     }
@@ -52,8 +51,17 @@ impl<J: JournalId> Session<J> {
             (self.new.state, result) sender.new self.new.seat }
     {
         let Due { index, body } = due;
-        let Answering { response, lock } = self.ask(body, sender);
-        self.transaction.after(phase, index, response, lock)
+        match self.ask(body, sender) {
+            Ok(answer) => {
+                let (answer, lock) = answer.into_parts();
+                self.transaction.after_answer(phase, index, &answer, lock);
+                Ok(Some(answer))
+            }
+            Err(miss) => {
+                self.transaction.after_miss(phase, index, miss);
+                Err(miss)
+            }
+        }
     }
 
     // Sends the request of a phase that is due, where one is.
@@ -163,11 +171,6 @@ impl<J: JournalId> Session<J> {
         let Ok(body) = self.transaction.heartbeat(ttl) else {
             return Err(Miss::Fault);
         };
-        let Answering { response, lock: _ } = self.ask(body, sender);
-        match response {
-            Response::Lost => Err(Miss::Lost),
-            Response::OutOfMemory => Err(Miss::Fault),
-            Response::Answered(answer) => Ok(Some(answer)),
-        }
+        Ok(Some(self.ask(body, sender)?.into_answer()))
     }
 }

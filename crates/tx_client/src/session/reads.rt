@@ -10,7 +10,6 @@ ghost use Rattle.tx_client.specs.Rooms.{HasRoom, IsScan, HasUpto};
 ghost use Rattle.tx_client.specs.Walks.{Sends, look_walk, get_walk, part_walk, look_part, part_by, scan_walk, part_of, low_of, high_of, enough, lesser, greater};
 
 use crate::part::ScanPart;
-use crate::requests::Answering;
 use crate::session::Session;
 use std::alloc::Global;
 use std::convert::TryFrom;
@@ -35,8 +34,9 @@ impl<J: JournalId> Session<J> {
         ) sender.new self.new.seat }
         ensures upto { (n : ℕ) → IsScan n body → HasUpto n result }
     {
-        let Answering { response, lock } = self.ask(body, sender);
-        self.transaction.after_read(response, lock)
+        let (answer, lock) = self.ask(body, sender)?.into_parts();
+        self.transaction.after_read(&answer, lock);
+        Ok(answer)
     }
 
     // Reads a key of the store.

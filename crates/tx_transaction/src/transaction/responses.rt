@@ -1,14 +1,13 @@
 //! What comes of a transaction's requests.
-ghost use Rattle.std.specs.Prelude.{◌≡◌, ◌<◌, None, length};
+ghost use Rattle.std.specs.Prelude.{◌≡◌, ◌<◌, None, Ok, Err, length};
 ghost use Rattle.tx_core.specs.Decisions.{fate_in};
 ghost use Rattle.tx_transaction.specs.Buffers.{promised};
-ghost use Rattle.tx_transaction.specs.Sessions.{first_settled, committed_by, missed, after_answer, met_by, lock_met, after_response, after_read};
-ghost use Rattle.tx_transaction.specs.Returns.{returned, read};
+ghost use Rattle.tx_transaction.specs.Sessions.{first_settled, committed_by, cause_by, met_by, after_response, after_read};
 
 use super::Transaction;
 use crate::answers::{cause, committed, drawn};
 use crate::buffer::{Buffer, note, note_sent, promised};
-use crate::state::{Miss, Phase, Response};
+use crate::state::{Miss, Phase};
 use tx_core::{Answer, UnknownCause, fate_in};
 use tx_types::{Fate, LockInfo};
 
@@ -27,6 +26,16 @@ fn decided(known: Option<Fate>, answer: &Answer, buffer: &Buffer) -> Option<Fate
     }
 }
 
+// Why the fate is not known, where no answer came.
+fn cause_by(why: Miss) -> UnknownCause
+    ensures { result ≡ cause_by why }
+{
+    match why {
+        Miss::Lost => UnknownCause::Reply,
+        Miss::Fault => UnknownCause::OutOfMemory,
+    }
+}
+
 impl Transaction {
     // Keeps the lock that an answer names as in the way, of which it gets a copy.
     fn on_lock(&mut self, answer: &Answer, lock: Option<LockInfo>)
@@ -39,12 +48,17 @@ impl Transaction {
         }
     }
 
-    // Hears the answer to a request of a phase, with a copy of the lock that it names as in the
-    // way.
-    fn on_answer(&mut self, phase: Phase, index: usize, answer: &Answer, lock: Option<LockInfo>)
+    /// The answer to a request of a phase, and a copy of the lock that it names as in the way.
+    pub fn after_answer(
+        &mut self,
+        phase: Phase,
+        index: usize,
+        answer: &Answer,
+        lock: Option<LockInfo>,
+    )
         requires within { index < length self.old.buffer }
         requires lock { lock ≡ met_by answer.now None }
-        ensures { self.new ≡ after_answer self.old phase index answer.now }
+        ensures { self.new ≡ after_response self.old phase index (Ok answer.now) }
     {
         note(&mut self.buffer, index, phase, answer);
         self.drawn = drawn(answer, self.drawn);
@@ -53,60 +67,22 @@ impl Transaction {
         self.on_lock(answer, lock);
     }
 
-    // No answer came to a request of a phase.
+    /// No answer came to a request of a phase.
     #[inline(never)]
-    fn miss(&mut self, phase: Phase, index: usize, why: UnknownCause)
+    pub fn after_miss(&mut self, phase: Phase, index: usize, why: Miss)
         requires { index < length self.old.buffer }
-        ensures { self.new ≡ missed self.old phase index why }
+        ensures { self.new ≡ after_response self.old phase index (Err why) }
     {
         note_sent(&mut self.buffer, index, phase);
-        self.cause = Some(why);
+        self.cause = Some(cause_by(why));
     }
 
-    /// What came of a request of a phase, with a copy of the lock that an answer names as in the
-    /// way. The answer is handed on, and that takes no memory.
-    pub fn after(
-        &mut self,
-        phase: Phase,
-        index: usize,
-        response: Response,
-        lock: Option<LockInfo>,
-    ) -> Result<Option<Answer>, Miss>
-        requires within { index < length self.old.buffer }
-        requires lock { lock ≡ lock_met response }
-        ensures state { self.new ≡ after_response self.old phase index response }
-        ensures returns { result ≡ returned response }
+    /// The answer to a read, and a copy of the lock that it names as in the way. A read that has no
+    /// answer changes nothing.
+    pub fn after_read(&mut self, answer: &Answer, lock: Option<LockInfo>)
+        requires lock { lock ≡ met_by answer.now None }
+        ensures { self.new ≡ after_read self.old (Ok answer.now) }
     {
-        match response {
-            Response::Lost => {
-                self.miss(phase, index, UnknownCause::Reply);
-                Err(Miss::Lost)
-            }
-            Response::OutOfMemory => {
-                self.miss(phase, index, UnknownCause::OutOfMemory);
-                Err(Miss::Fault)
-            }
-            Response::Answered(answer) => {
-                self.on_answer(phase, index, &answer, lock);
-                Ok(Some(answer))
-            }
-        }
-    }
-
-    /// What came of a read, with a copy of the lock that an answer names as in the way. The answer
-    /// is handed on, and that takes no memory.
-    pub fn after_read(&mut self, response: Response, lock: Option<LockInfo>) -> Result<Answer, Miss>
-        requires lock { lock ≡ lock_met response }
-        ensures state { self.new ≡ after_read self.old response }
-        ensures reads { result ≡ read response }
-    {
-        match response {
-            Response::Lost => Err(Miss::Lost),
-            Response::OutOfMemory => Err(Miss::Fault),
-            Response::Answered(answer) => {
-                self.on_lock(&answer, lock);
-                Ok(answer)
-            }
-        }
+        self.on_lock(answer, lock);
     }
 }

@@ -10,5 +10,6 @@ returns c =
     let old = c.args.out.now.items in
     let ds = reply_words c.args.reply.now in
     let n = c.args.number in
-    let all : c.put_words.new.out.items ≡ ((old ++ 91 ∷ []) ++ decimal n) ++ members_text ds = search rules in
-    on_ok c.put_end.result c.put_end.ensures (λ e. e ∙ ap (λ t. t ++ 93 ∷ 10 ∷ []) all ∙ line_is old n ds)
+    let begun : c.put_digits.new.out.items ≡ (old ++ 91 ∷ []) ++ decimal n = search rules in
+    on_ok c.put_behind_number.result c.put_behind_number.ensures
+    (λ e. e ∙ ap (λ t. (t ++ members_text ds) ++ 93 ∷ 10 ∷ []) begun ∙ line_is old n ds)

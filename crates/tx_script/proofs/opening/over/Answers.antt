@@ -8,6 +8,7 @@ use Rattle.tx_script.specs.Checked.{EndsCheckedLines, BreaksCheckedLines}
 use Rattle.tx_script.specs.Numbered.{EndsNumberedLines, BreaksNumberedLines}
 use Rattle.tx_script.specs.declared.asked.Asked.{Asked}
 use Rattle.tx_script.specs.Loops.{Ahead, EndsAsked, BreaksAsked}
+use Rattle.tx_script.specs.Stages.{NotesStage}
 use Rattle.tx_script.proofs.Scripts.{if_any_err}
 use Rattle.tx_script.proofs.Ending.{then_ok, then_err}
 use Rattle.tx_script.proofs.Checking.{breaks_first_asked}
@@ -73,3 +74,18 @@ returns-in-NumberedSteps-clause-breaks g c = then_err _ _ c.number_over.result c
     (g.W.Write.contents c.args.writer.now) (g.W.Write.contents c.number_over.new.writer)) (sym c.in-NumberedSteps.is)
     (subst (λ (bounds : List Key). BreaksNumberedLines bounds why lines (g.W.Write.contents c.args.writer.now)
     (g.W.Write.contents c.number_over.new.writer)) (sym c.requires.named.1) (h lines a)))
+
+pub returns-in-Replies-clause-staged : goal.returns-in-Replies-clause-staged
+returns-in-Replies-clause-staged g c = then_ok _ _ c.simulate_over.result c.simulate_over.ensures.staged
+    (λ end h lines a. subst (λ (bounds : List Key). NotesStage bounds lines c.simulate_over.new.stage)
+    (sym c.requires.named.1) (h lines a))
+
+pub returns-in-Steps-clause-staged : goal.returns-in-Steps-clause-staged
+returns-in-Steps-clause-staged g c = then_ok _ _ c.check_over.result c.check_over.ensures.staged
+    (λ end h lines a. subst (λ (bounds : List Key). NotesStage bounds lines c.check_over.new.stage)
+    (sym c.requires.named.1) (h lines a))
+
+pub returns-in-NumberedSteps-clause-staged : goal.returns-in-NumberedSteps-clause-staged
+returns-in-NumberedSteps-clause-staged g c = then_ok _ _ c.number_over.result c.number_over.ensures.staged
+    (λ end h lines a. subst (λ (bounds : List Key). NotesStage bounds lines c.number_over.new.stage)
+    (sym c.requires.named.1) (h lines a))

@@ -4,6 +4,7 @@ use Rattle.tx_types.specs.declared.key.Key.{Key}
 use Rattle.tx_text.specs.Lines.{lines_of}
 use Rattle.tx_evidence.specs.Lines.{bounds_of}
 use Rattle.tx_script.specs.Loops.{first_bounds, EndsAsked, BreaksAsked}
+use Rattle.tx_script.specs.Stages.{NotesStage}
 use Rattle.tx_script.proofs.Scripts.{if_any_err}
 use Rattle.tx_script.proofs.Lines.{reads_ahead}
 use Rattle.tx_script.proofs.Ending.{then_ok, then_err, if_some, any_some, bounds_ahead}
@@ -62,5 +63,19 @@ returns-clause-breaks g c =
     (λ why h. if_some _ _ (g.R.Read.remaining c.args.reader.now)
     (λ input reads. (let ahead = reads_ahead c.in_ok-first.first line input left reads in
     subst (λ (bounds : List Key). BreaksAsked c.args.asked bounds why (lines_of input) old new)
+    (said ∙ bounds_ahead c.in_ok-first.first line left (lines_of input) ahead) (h (lines_of input) ahead)))
+    c.in_ok-first.ensures.reads)
+
+pub returns-clause-staged : goal.returns-clause-staged
+returns-clause-staged g c =
+    let line = c.read_line.new.line.items in
+    let left = g.R.Read.remaining c.read_line.new.reader in
+    let said : c.in-Ok-new.opened.bounds ≡ first_bounds c.in_ok-first.first line =
+    c.in-Ok-new.ensures.ok.0 ∙ c.in_ok-bounds.ensures.bounds ∙ ap (first_bounds c.in_ok-first.first)
+    c.as_slice.ensures.value in
+    then_ok _ _ c.over.result c.over.ensures.staged
+    (λ end h. if_some _ _ (g.R.Read.remaining c.args.reader.now)
+    (λ input reads. (let ahead = reads_ahead c.in_ok-first.first line input left reads in
+    subst (λ (bounds : List Key). NotesStage bounds (lines_of input) c.over.new.stage)
     (said ∙ bounds_ahead c.in_ok-first.first line left (lines_of input) ahead) (h (lines_of input) ahead)))
     c.in_ok-first.ensures.reads)

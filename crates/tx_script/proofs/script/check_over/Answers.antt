@@ -69,3 +69,8 @@ returns-clause-ends g c =
     c.close-trace.ensures.run lines (g.W.Write.contents c.args.writer.now)
     (g.W.Write.contents c.play_lines-ended.new.writer) (g.W.Write.contents c.write_rest.new.writer) c.in_ok-end.end
     (λ le. h le lines a) (c.in_ok-write_rest.ensures.all c.play_lines-ended.new.engine.network.newest of)
+
+pub returns-clause-staged : goal.returns-clause-staged
+returns-clause-staged g c =
+    let h = rw c.in_ok-end.was at c.play_lines-ended.ensures.staged in
+    λ lines a. h c.close-trace.ensures.came lines a

@@ -76,3 +76,8 @@ returns-clause-ends g c =
     c.in_ok-end.end (option_map (λ v. v.items) c.play_lines-ended.new.numbers) (λ le. h le lines a)
     (λ well. n well c.close-trace.ensures.came c.close-trace.ensures.run traced lines a)
     (c.in_ok-write_numbered.ensures.all c.play_lines-ended.new.engine.network.newest of)
+
+pub returns-clause-staged : goal.returns-clause-staged
+returns-clause-staged g c =
+    let h = rw c.in_ok-end.was at c.play_lines-ended.ensures.staged in
+    λ lines a. h c.close-trace.ensures.came lines a

@@ -1,24 +1,27 @@
-use Rattle.std.proofs.Common.{◌≤◌, ◌+◌, length, option_map, sym, subst, arith}
+use Rattle.std.proofs.Common.{◌≡◌, ◌≤◌, ◌+◌, length, Some, IfSome, option_map, sym, subst, arith}
 use Rattle.std.proofs.KnownBytes.{Keeps-refl}
+use Rattle.tx_types.specs.declared.fault.Cause.TheVariants as cause
 use Rattle.tx_types.specs.declared.limits.TheConstants.{MAX_LINES}
 use Rattle.tx_text.specs.declared.end.Broken.{Broken}
-use Rattle.tx_engine.specs.Slots.{Held, own, Goes}
+use Rattle.tx_engine.specs.Slots.{Held, engine_state, own, Goes}
 use Rattle.tx_network.specs.Networks.{IsTraced}
 use Rattle.tx_script.specs.declared.line.Turned.TheVariants as turned
 use Rattle.tx_script.specs.Loops.{FoundTurned, FitsFound, BetweenLines}
+use Rattle.tx_script.specs.Stages.{line_stage}
 use Rattle.tx_script.proofs.Scripts.{counts_first, kept, ready, still, kept_after, traced_on, if_err_is, if_any_err}
 use Rattle.tx_script.proofs.Lines.{AllBreak, on_first, break_before, end_well, end_broken, fault_ends, fault_breaks, fault_breaks_last, reply_breaks, read_breaks, on_next}
 use Rattle.tx_script.proofs.NumberedLines.{numbers_first, numbers_next, numbers_end}
+use Rattle.tx_script.proofs.Stops.{stop_noted}
 use Rattle.tx_script.proofs.script.play_lines.Goals as goal
 
-pub returns-in_err-text-clause-kept : goal.returns-in_err-text-clause-kept
-returns-in_err-text-clause-kept g c =
+pub returns-in_err-replies-clause-kept : goal.returns-in_err-replies-clause-kept
+returns-in_err-replies-clause-kept g c =
     let counts = counts_first g.J.JournalId.bounds c.args.engine.now c.requires.opening c.requires.slots
     c.requires.ready in
     kept g.J.JournalId.bounds 0 c.args.engine.now counts
 
-pub returns-in_err-text-clause-breaks : goal.returns-in_err-text-clause-breaks
-returns-in_err-text-clause-breaks g c =
+pub returns-in_err-replies-clause-breaks : goal.returns-in_err-replies-clause-breaks
+returns-in_err-replies-clause-breaks g c =
     let on = on_first g.J.JournalId.bounds c.args.first c.args.line.now.items (g.R.Read.remaining c.args.reader.now)
     (g.W.Write.contents c.args.writer.now) c.args.engine.now c.requires.opening c.requires.slots in
     let f : (why : Broken) → length c.args.engine.now.network.newest ≤ own c.args.engine.now
@@ -277,6 +280,41 @@ returns-in-Stops-clause-ends g c =
     (g.W.Write.contents c.finish-in-Stops.new.writer) c.in_ok-write_fault-in-Stops.ensures.all
     c.finish-in-Stops.ensures.kept
 
+pub fault_stage-requires : goal.fault_stage-requires
+fault_stage-requires g c =
+    let goes : Goes g.J.JournalId.bounds c.lines.engine c.play_found.new.engine
+    (FoundTurned g.J.JournalId.bounds (c.lines.number
+    + 1) c.lines.found c.lines.line.items (turned.Stops c.in-Stops.cause) c.lines.engine
+    c.play_found.new.engine) = subst (λ l. Goes g.J.JournalId.bounds c.lines.engine c.play_found.new.engine
+    (FoundTurned g.J.JournalId.bounds (c.lines.number
+    + 1) c.lines.found l (turned.Stops c.in-Stops.cause) c.lines.engine c.play_found.new.engine))
+    c.as_slice.ensures.value (rw c.in-Stops.is at c.in_ok-play_found.ensures.goes) in
+    record {
+      ready = (kept_after g.J.JournalId.bounds c.lines.number c.lines.engine c.play_found.new.engine
+          c.lines.invariant.0 _ goes c.lines.invariant.1).seated;
+    }
+
+pub returns-in-Stops-clause-staged : goal.returns-in-Stops-clause-staged
+returns-in-Stops-clause-staged g c =
+    let goes : Goes g.J.JournalId.bounds c.lines.engine c.play_found.new.engine
+    (FoundTurned g.J.JournalId.bounds (c.lines.number
+    + 1) c.lines.found c.lines.line.items (turned.Stops c.in-Stops.cause) c.lines.engine
+    c.play_found.new.engine) = subst (λ l. Goes g.J.JournalId.bounds c.lines.engine c.play_found.new.engine
+    (FoundTurned g.J.JournalId.bounds (c.lines.number
+    + 1) c.lines.found l (turned.Stops c.in-Stops.cause) c.lines.engine c.play_found.new.engine))
+    c.as_slice.ensures.value (rw c.in-Stops.is at c.in_ok-play_found.ensures.goes) in
+    let fits : FitsFound c.lines.found (turned.Stops c.in-Stops.cause) =
+    rw c.in-Stops.is at c.in_ok-play_found.ensures.fits in
+    let said : IfSome c.fault_stage.result (λ at. (c.in-Stops.cause ≡ cause.Order)
+    × (line_stage (engine_state c.play_found.new.engine) (c.lines.number + 1) c.lines.line.items ≡ Some at)) =
+    subst (λ l. IfSome c.fault_stage.result (λ at. (c.in-Stops.cause ≡ cause.Order)
+    × (line_stage (engine_state c.play_found.new.engine) (c.lines.number + 1) l ≡ Some at)))
+    c.as_slice-in-Stops.ensures.value c.fault_stage.ensures in
+    stop_noted g.J.JournalId.bounds c.args.first c.args.line.now.items (g.R.Read.remaining c.args.reader.now)
+    (g.W.Write.contents c.args.writer.now) c.lines.found c.lines.line.items (g.R.Read.remaining c.lines.reader)
+    (g.W.Write.contents c.lines.writer) c.lines.number c.lines.engine c.lines.invariant.2 c.play_found.new.engine
+    c.lines.invariant.0 c.in-Stops.cause goes fits c.fault_stage.result said
+
 pub returns-in_err-found-clause-kept : goal.returns-in_err-found-clause-kept
 returns-in_err-found-clause-kept g c =
     let goes : Goes g.J.JournalId.bounds c.lines.engine c.play_found.new.engine
@@ -381,8 +419,8 @@ returns-in_err-found-clause-traced g c = λ le. traced_on g.J.JournalId.bounds c
     c.play_found.new.engine c.lines.invariant.0 _ c.in_ok-play_found.ensures.goes le c.args.engine.now.network
     c.lines.invariant.3
 
-pub returns-in_err-text-clause-traced : goal.returns-in_err-text-clause-traced
-returns-in_err-text-clause-traced g c = λ le first. first
+pub returns-in_err-replies-clause-traced : goal.returns-in_err-replies-clause-traced
+returns-in_err-replies-clause-traced g c = λ le first. first
 
 pub returns-in_err-play_found-clause-traced : goal.returns-in_err-play_found-clause-traced
 returns-in_err-play_found-clause-traced g c = subst (λ (e : Held). length e.network.newest ≤ own e

@@ -1,15 +1,17 @@
-use Rattle.std.proofs.Common.{arith, sym, ◌<◌, ◌≡◌, length, true}
-use Rattle.tx_transaction.specs.Buffers.{wants, progress_at}
-use Rattle.tx_transaction.proofs.Places.{first_found, place_none}
+use Rattle.std.proofs.Common.{arith, ◌<◌, length}
+use Rattle.tx_transaction.proofs.Places.{first_found}
+use Rattle.tx_transaction.proofs.Heads.{settled_up, first_is}
 use Rattle.tx_transaction.proofs.buffer.index_of.Goals as goal
 
-pub returns-then-wants_more-clause-index : goal.returns-then-wants_more-clause-index
-returns-then-wants_more-clause-index c =
-    let lt : c.loop-i.i < length c.args.buffer.now = omega (arith, c.len-i-end.ensures.len) in
-    let here : wants c.args.phase (progress_at c.args.buffer.now c.loop-i.i) ≡ true = cc in
-    first_found c.args.phase c.args.buffer.now c.loop-i.i lt c.loop-i.invariant here
+pub returns-in-Some-clause-index : goal.returns-in-Some-clause-index
+returns-in-Some-clause-index c =
+    let found = c.in-Some.ensures.found in
+    let lt : c.in-Some.i < length c.args.buffer.now = omega (arith, found.0, c.settled-settled.ensures.within) in
+    first_found c.args.phase c.args.buffer.now c.in-Some.i lt (λ k less. found.2 k (omega arith) less) found.1
 
 pub returns-clause-index : goal.returns-clause-index
 returns-clause-index c =
-    sym (place_none 0 c.args.phase c.args.buffer.now
-    (λ k lt. c.loop-i.invariant k (omega (arith, c.len-i-end.ensures.len))))
+    first_is c.args.phase c.args.buffer.now c.settled-settled.result.1 c.len.result c.index_between-2.result
+    (settled_up c.args.phase c.args.buffer.now c.settled-settled.result.0 c.settled-settled.result.1
+    c.in_default.ensures.absent c.settled-settled.ensures.settled)
+    c.len.ensures.len c.index_between-2.ensures.found c.index_between-2.ensures.absent

@@ -4,6 +4,6 @@ use Rattle.tx_journal.specs.Senders.{IsHeld}
 use Rattle.tx_client.proofs.Calling.{held_at}
 use Rattle.tx_client.proofs.session.Session.heartbeat.Goals as goal
 
-pub ask-response-requires-clause-held : goal.ask-response-requires-clause-held
-ask-response-requires-clause-held g c =
+pub ask-requires-clause-held : goal.ask-requires-clause-held
+ask-requires-clause-held g c =
     subst (λ (b : Body). IsHeld g.J.JournalId.bounds b) (sym c.in-Ok.ensures.ok) (held_at g.J.JournalId.bounds _)

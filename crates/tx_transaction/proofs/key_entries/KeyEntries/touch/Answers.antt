@@ -16,6 +16,7 @@ invariant_of-self c =
           (touched_few few more c.args.key c.args.mutation c.in-Some.i c.index_mut.result.now there
           c.index_mut.ensures.value),
       room_set FEW few more c.in-Some.i _ c.self.invariant.1,
+      c.self.invariant.2,
     )
 
 pub returns-in-Some-clause-ok : goal.returns-in-Some-clause-ok
@@ -43,6 +44,7 @@ invariant_of-self-then-len-lt-FEW c =
           (ap (λ (l : Entries). l ++ more) c.in_ok-push.ensures.items
           ∙ touched_last few more c.args.key c.args.mutation empty none),
       inl empty,
+      c.self.invariant.2,
     )
 
 pub returns-then-len-lt-FEW-clause-ok : goal.returns-then-len-lt-FEW-clause-ok
@@ -71,6 +73,7 @@ invariant_of-self-2 c =
           (ap (λ (l : Entries). few ++ l) c.in_ok-insert.ensures.entries
           ∙ touched_behind few more c.args.key c.args.mutation none),
       inr (omega (arith, c.if-len-lt-FEW.false, c.len.ensures)),
+      λ k lt. absurd (omega (arith, lt)),
     )
 
 pub returns-clause-ok : goal.returns-clause-ok

@@ -1,0 +1,68 @@
+//! How far a session is, by which a step may not be its next one.
+ghost use Rattle.std.specs.Prelude.{◌≡◌, ◌↔◌, true};
+ghost use Rattle.tx_transaction.specs.Sessions.{can_draw};
+ghost use Rattle.tx_engine.specs.declared.stage.SessionStage.TheVariants as stages;
+ghost use Rattle.tx_engine.specs.Stages.{undecided_stage, stage_of};
+
+use tx_client::Phase;
+use tx_transaction::Transaction;
+use tx_types::Fate;
+
+/// How far a session is.
+#[derive(Clone, Copy, Debug, PartialEq, Eq)]
+pub enum SessionStage {
+    /// It has declared nothing.
+    Open,
+    /// It has declared an empty write set.
+    Empty,
+    /// A key that it declared has no accepted lock.
+    Locking,
+    /// Each key has one, none of them in two phases.
+    Promised,
+    /// Each key has one, some of them in two phases: a commit timestamp may be drawn.
+    Locked,
+    /// Its commit timestamp is drawn.
+    Drawn,
+    /// It knows that it is committed.
+    Committed,
+    /// It knows that it is aborted.
+    Aborted,
+}
+
+impl SessionStage {
+    /// How far a transaction is, by what its session knows. It is `Locked` just where a commit
+    /// timestamp may be drawn.
+    pub fn of(transaction: &Transaction) -> SessionStage
+        ensures stage { result ≡ stage_of transaction.now }
+        ensures locked { (result ≡ stages.Locked) ↔ (can_draw transaction.now ≡ true) }
+    {
+        if !transaction.is_declared() {
+            return SessionStage::Open;
+        }
+        if !transaction.has_keys() {
+            return SessionStage::Empty;
+        }
+        match transaction.decision() {
+            Some(Fate::Committed(_)) => SessionStage::Committed,
+            Some(Fate::Aborted) => SessionStage::Aborted,
+            None if transaction.can_commit() => SessionStage::Drawn,
+            None if transaction.is_due(Phase::Prewrite) => SessionStage::Locking,
+            None if transaction.can_draw() => SessionStage::Locked,
+            None => SessionStage::Promised,
+        }
+    }
+
+    /// What is so of such a session, as a sentence goes on that begins with its name.
+    pub fn as_str(self) -> &'static str {
+        match self {
+            SessionStage::Open => "has declared no write set",
+            SessionStage::Empty => "has declared an empty write set",
+            SessionStage::Locking => "has a key that is not locked yet",
+            SessionStage::Promised => "has no key that is locked in two phases",
+            SessionStage::Locked => "has all its keys locked, and no commit timestamp yet",
+            SessionStage::Drawn => "has drawn its commit timestamp already",
+            SessionStage::Committed => "is committed",
+            SessionStage::Aborted => "is aborted",
+        }
+    }
+}

@@ -1,0 +1,2 @@
+-- A number that is counted up in its digits.
+mod Counted

@@ -1,0 +1,28 @@
+use Rattle.std.proofs.Common.{All, List, sym, subst, ◌∙◌}
+use Rattle.tx_types.specs.declared.key.Key.{Key}
+use Rattle.tx_core.specs.Histories.{History}
+use Rattle.tx_run.specs.Answers.{numbers_of}
+use Rattle.tx_run.specs.Jobs.{AreGathered}
+use Rattle.tx_run.specs.Tells.{TellsLine}
+use Rattle.tx_run.proofs.Gathering.{gathered_on}
+use Rattle.tx_run.proofs.play.close.Goals as goal
+
+pub returns-clause-gathered : goal.returns-clause-gathered
+returns-clause-gathered g c =
+    let firsts = numbers_of c.args.replies in
+    let jobs = c.args.outputs.items in (
+      subst (λ (h : History). AreGathered firsts h c.gather.new.replies jobs)
+          (sym (c.unnamed.ensures.1 ∙ c.tell-told.ensures.told))
+          (gathered_on c.gather.new.seat.events c.in_ok-total.seat.events c.in_ok-total.ensures.knows firsts
+          c.gather.new.replies jobs c.in_ok-faulted.ensures.comes),
+      c.in_ok-faulted.ensures.faulted,
+    )
+
+pub returns-clause-tells : goal.returns-clause-tells
+returns-clause-tells g c =
+    let source = g.L.Source.text in
+    let xs = c.gather.new.replies in
+    let told = c.unnamed.ensures.1 ∙ c.tell-told.ensures.told in
+    subst (λ (h : History). All (TellsLine source c.unnamed.result.bounds h) xs) (sym told)
+    (subst (λ (b : List Key). All (TellsLine source b c.in_ok-total.seat.events) xs) (sym c.unnamed.ensures.0)
+    c.in_ok-total.ensures.tells)

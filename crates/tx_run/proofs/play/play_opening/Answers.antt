@@ -1,0 +1,19 @@
+use Rattle.std.proofs.Common.{All, ◌++◌, ℕ, List, map, sym, ap, subst, ◌∙◌}
+use Rattle.tx_run.specs.declared.reply.LineReply.{LineReply}
+use Rattle.tx_run.specs.Answers.{numbers_of}
+use Rattle.tx_run.specs.Tells.{TellsLine}
+use Rattle.tx_run.proofs.play.play_opening.Goals as goal
+
+pub returns-clause-each : goal.returns-clause-each
+returns-clause-each g c =
+    ap numbers_of c.in_ok-add.ensures
+    ∙ ap (λ (l : List LineReply). numbers_of (l ++ c.play_seeds.new.replies.items)) c.new-replies.ensures
+    ∙ c.in_ok-seat.ensures.each
+    ∙ ap (λ (l : List ℕ). l ++ map (λ s. s.number) c.args.seeds.now) c.in_ok-write_regions.ensures.each
+
+pub returns-clause-tells : goal.returns-clause-tells
+returns-clause-tells g c =
+    let items = c.play_seeds.new.replies.items in
+    let all = c.in_ok-add.ensures ∙ ap (λ (l : List LineReply). l ++ items) c.new-replies.ensures in
+    subst (λ (l : List LineReply). All (TellsLine g.L.Source.text g.J.JournalId.bounds c.in_ok-seat.seat.events) l)
+    (sym all) c.in_ok-seat.ensures.tells

@@ -1,0 +1,27 @@
+use Rattle.std.proofs.Common.{sym, subst}
+use Rattle.tx_client.specs.Calls.{Seated}
+use Rattle.tx_transfer.specs.Transfers.{Moves}
+use Rattle.tx_transfer.proofs.Transferring.{entered_once, entered_twice, declared_both}
+use Rattle.tx_transfer.proofs.changes.declare.Goals as goal
+
+pub returns-in_err-enter-2 : goal.returns-in_err-enter-2
+returns-in_err-enter-2 g c =
+    let from = c.args.order.now.from in
+    let to = c.args.order.now.to in
+    let moves = entered_once from to c.args.session.now.state c.enter.new.session.state c.requires.declared
+    c.requires.moves c.in_ok-enter.ensures.entered in
+    record { moves = subst (λ (s : Seated). Moves from to s.state) (sym c.in_err-enter-2.ensures.same) moves }
+
+pub returns : goal.returns
+returns g c =
+    let from = c.args.order.now.from in
+    let to = c.args.order.now.to in
+    let both = entered_twice from to c.args.session.now.state c.enter.new.session.state c.requires.declared
+    c.requires.moves c.in_ok-enter.ensures.entered c.enter-2.new.session.state c.args.order.now.apart
+    c.in_ok-enter-2.ensures.entered in
+    record {
+      moves = declared_both _ _
+          c.declare.result from to _ c.enter-2.new.session c.declare.new.self c.declare.ensures.ok
+          c.declare.ensures.same
+          both;
+    }
