@@ -45,7 +45,8 @@ abbrev pub IsAnswer : ImportOptions → List (List ℕ) → List ℕ → ImportE
 IsAnswer options lines text end = IsJudged options lines text end ⊎ IsRead lines text end
 
 -- an answer that was not broken off was written, and nothing else
-abbrev pub WritesAnswer : ImportOptions → List ℕ → Option (List ℕ) → Option (List ℕ) → ImportEnd → Type 0
+abbrev pub WritesAnswer : ImportOptions → List ℕ → Option (List ℕ) → Option (List ℕ) → ImportEnd
+    → Type 0
 WritesAnswer options input old new end = (text : List ℕ) × IsAnswer options (lines_of input) text end
     × Appends old new text
 

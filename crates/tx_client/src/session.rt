@@ -266,8 +266,8 @@ impl<J: JournalId> Session<J> {
             → IsDrawnAfter self.old.seat.events self.new.seat.events self.new.state.placed) }
         ensures same { OnErr result (self.new ≡ self.old) }
         ensures err { IfErr result (λ e. ((e ≡ fault.TooManyKeys) × (exceeds self.old.state.buffer terms ≡ true))
-            ⊎ ((e ≡ fault.OracleSpent) × (self.old.seat.ticks < 1) × (exceeds self.old.state.buffer terms ≡ false)
-            × (not_empty self.old.state.buffer ≡ true))) }
+            ⊎ ((e ≡ fault.OracleSpent) × (self.old.seat.ticks < 1)
+            × (exceeds self.old.state.buffer terms ≡ false) × (not_empty self.old.state.buffer ≡ true))) }
     {
         if self.transaction.exceeds(&terms) {
             return Err(Fault::TooManyKeys);

@@ -19,6 +19,7 @@ pub record Takes {X : Type 0} (Is : X → Type 0) (spelling : X
   pub only : (x : X) (after : List ℕ) → Is x → bytes ≡ spelling x ++ after → (x ≡ value) × (after ≡ rest)
 
 -- what a reader answers of the bytes
-abbrev pub ReadsBytes : {X : Type 0} → (X → Type 0) → (X → List ℕ) → List ℕ → Result (X × Bor (List ℕ)) Unread → Type 0
+abbrev pub ReadsBytes : {X : Type 0} → (X → Type 0) → (X → List ℕ) → List ℕ
+    → Result (X × Bor (List ℕ)) Unread → Type 0
 ReadsBytes Is spelling bytes (Ok found) = Takes Is spelling bytes found.0 found.1.now
 ReadsBytes Is spelling bytes (Err e) = Fails Is spelling bytes e

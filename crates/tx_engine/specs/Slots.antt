@@ -184,8 +184,8 @@ Did bounds turn (Err cause) old new from to = (new ≡ old) × Stays from to
 
 -- what a step of a session does at a slot: the live session there makes it; with none it is not
 -- allowed, and changes nothing
-abbrev pub ActsIn : List Key → (List Bool → EngineState → ℕ → SessionState → Transition) → SlotContent → SlotContent
-    → Result ScriptReply Cause → NetworkParts → NetworkParts → Type 0
+abbrev pub ActsIn : List Key → (List Bool → EngineState → ℕ → SessionState → Transition) → SlotContent
+    → SlotContent → Result ScriptReply Cause → NetworkParts → NetworkParts → Type 0
 ActsIn bounds turn (Live s) new result from to = (t : Seated) × (new ≡ Live t) × Did bounds turn result s t from to
 ActsIn bounds turn old new result from to = (result ≡ Err cause.Name) × (new ≡ old) × (to ≡ from)
 

@@ -11,4 +11,5 @@ use Rattle.tx_simple.specs.Ranges.{is_in_range}
 -- the rows of a range are those that the one-step machine sees there at a timestamp: they rise,
 -- each is of a key of the range, and of each such key they tell what the machine sees
 abbrev pub SeesRange : History → ℕ → Option Key → Option Key → List KeyValue → Type 0
-SeesRange h at from to rows = AreRowsOf (is_in_range from to) (λ k found. Sees (table_of (shadow h)).row k at found) rows
+SeesRange h at from to rows =
+    AreRowsOf (is_in_range from to) (λ k found. Sees (table_of (shadow h)).row k at found) rows

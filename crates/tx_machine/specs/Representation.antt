@@ -59,8 +59,8 @@ pub record KeepsReads (reads : List Reading) (kept_at : Key → ℕ → Type 0) 
   pub kept : (k : Key) (r : ℕ) → IsRead reads k r → (s : ℕ) × (r ≤ s) × kept_at k s
 
 -- what the maps say is what a table says
-pub record TellsTable (last : ℕ) (stages : ℕ → Option TxnStage) (fates : ℕ → Option Fate) (versions : Key → ℕ
-    → Option Version) (kept_at : Key → ℕ → Type 0) (table : Table) : Type 0 where
+pub record TellsTable (last : ℕ) (stages : ℕ → Option TxnStage) (fates : ℕ → Option Fate)
+    (versions : Key → ℕ → Option Version) (kept_at : Key → ℕ → Type 0) (table : Table) : Type 0 where
   pub last_is : table.last ≡ last
   pub drawn : (t : ℕ) → table.drawn t ≡ is_some (stages t)
   pub range : (t : ℕ) → table.drawn t ≡ true → t ≤ table.last

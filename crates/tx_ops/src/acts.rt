@@ -39,8 +39,8 @@ fn draw<J: JournalId>(session: &mut Session<J>) -> Result<ScriptReply, Cause>
     }
 }
 
-/// What a session does by itself: `Order` just where its state does not allow it, and of a line that
-/// is to end it or to resolve a lock. Only an edit takes memory.
+/// What a session does by itself: `Order` just where its state does not allow it, and of a line
+/// that is to end it or to resolve a lock. Only an edit takes memory.
 #[inline(never)]
 pub fn act<J: JournalId>(
     alloc: Global,

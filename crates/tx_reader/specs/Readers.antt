@@ -66,5 +66,6 @@ FindsAt bounds known at (Part from to limit) a = ScansAt bounds known at from to
 -- a request asks for this, at this timestamp
 abbrev pub IsReadOf : Read → ℕ → Body → Type 0
 IsReadOf (OfKey key) at (body.Get b) = (b.key ≡ key) × (b.at ≡ at)
-IsReadOf (Part from to limit) at (body.Scan b) = (b.from ≡ from) × (b.to ≡ to) × (b.limit ≡ limit) × (b.at ≡ at)
+IsReadOf (Part from to limit) at (body.Scan b) = (b.from ≡ from) × (b.to ≡ to) × (b.limit ≡ limit)
+    × (b.at ≡ at)
 IsReadOf read at _ = ⊥

@@ -115,7 +115,8 @@ impl<J: JournalId> Reader<J> {
         ensures at { self.new.at ≡ self.old.at }
         ensures seat { OnlySees self.old.seat self.new.seat }
         ensures run { IsWorldRun J.bounds self.new.seat.events }
-        ensures told { IfOk result (λ a. (b : Sent) × IsReadOf read.now self.old.at b × WasAnswered self.new.seat.events b a) }
+        ensures told { IfOk result (λ a. (b : Sent) × IsReadOf read.now self.old.at b
+            × WasAnswered self.new.seat.events b a) }
     {
         let Ok(body) = self.body_of(read) else {
             return Err(Miss::Fault);

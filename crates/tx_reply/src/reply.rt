@@ -121,7 +121,8 @@ pub const REFUSAL_BYTES: usize = 32;
 /// Appends what follows the number in the line of a reply, with its newline.
 #[inline(always)]
 pub(crate) fn put_behind_number(out: &mut Vec<u8>, reply: &ScriptReply) -> Result<(), AllocError>
-    ensures { OnOk result (out.new.items ≡ (out.old.items ++ members_text (reply_words reply.now)) ++ 93 ∷ 10 ∷ []) }
+    ensures { OnOk result (out.new.items
+        ≡ (out.old.items ++ members_text (reply_words reply.now)) ++ 93 ∷ 10 ∷ []) }
 {
     put_words(out, reply)?;
     put_end(out)

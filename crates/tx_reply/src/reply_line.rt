@@ -13,8 +13,8 @@ use std::marker::Model;
 use tx_text::{Broken, put_digits, put_fault, send};
 use tx_types::Cause;
 
-/// The buffer in which the lines of replies are made. Between two of them it keeps a bracket and the
-/// number of the last one, which is its view; none where it may hold something else.
+/// The buffer in which the lines of replies are made. Between two of them it keeps a bracket and
+/// the number of the last one, which is its view; none where it may hold something else.
 #[derive(Drop)]
 pub struct ReplyLine {
     text: Vec<u8>,

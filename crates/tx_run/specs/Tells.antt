@@ -61,8 +61,8 @@ AnswerTells bounds entered h (Some what) (Ended start o keys) = TellsBy bounds e
 AnswerTells bounds entered h None (Plain (Ok plain)) = plain.reply ≡ reply.Regions (length bounds + 1)
 AnswerTells bounds entered h None (Ended start o keys) = ⊥
 
--- The answer of a line tells of what has happened, by what the line says, or of what lines before it
--- entered.
+-- The answer of a line tells of what has happened, by what the line says, or of what lines before
+-- it entered.
 abbrev pub TellsLine : Option (List ℕ) → List Key → History → LineReply → Type 0
 TellsLine source bounds h s = (said : Option (Step Text)) × Says source s.number said
     × AnswerTells bounds (EnteredBefore source s.number) h said s.answer

@@ -38,8 +38,8 @@ use tx_transfer::{
 use tx_types::{Cause, Fault, Key};
 
 /// A session, the lines that are left of it, and what was answered. Contracts see its number, its
-/// log, which lines are left, whether a transfer is on its way, what is entered, and whether a fault
-/// ended it.
+/// log, which lines are left, whether a transfer is on its way, what is entered, and whether a
+/// fault ended it.
 #[derive(Drop)]
 pub(crate) struct ScriptJob<J: JournalId, L: Source, F: Families + Drop, R: Wait + Drop> {
     number: u32,

@@ -48,7 +48,8 @@ where
     ensures comes { IfOk result (λ r. IfSome r.1 (λ played. ComesOfText L.text played.seen.events played.replies)) }
     ensures faulted { IfOk result (λ r. IfSome r.1 (λ played. played.faulted ≡ has_fault played.replies)) }
     ensures total { IfOk result (λ r. IfSome r.1 (λ played. TellsTotal played.seen played.replies played.total)) }
-    ensures wrote { IfOk result (λ r. WritesText (W.contents writer.old) (W.contents writer.new) (IsRunText L.text r.1)) }
+    ensures wrote { IfOk result
+        (λ r. WritesText (W.contents writer.old) (W.contents writer.new) (IsRunText L.text r.1)) }
     ensures ends { IfOk result (λ r. r.0 ≡ end_of r.1) }
     ensures whole { IfOk result (λ r. IfSome r.1 (λ played. IsFaultless L.text)) }
     ensures broken { OnErr result (WritesPart (W.contents writer.old) (W.contents writer.new) (IsTextFrom L.text)) }
@@ -82,9 +83,9 @@ where
 /// told was answered in what all sessions had seen, no two are of one transaction, and the
 /// transaction of a transfer that was committed or aborted declared changes of just the two keys
 /// that its line says. Each other reply tells of what all sessions had seen, or of what a line of
-/// the same name before it entered; a seed that is told to be done was declared as its put alone and
-/// answered as committed. The total is the sum of the balances that the one-step machine sees at one
-/// timestamp, at or above each commit that a line is told.
+/// the same name before it entered; a seed that is told to be done was declared as its put alone
+/// and answered as committed. The total is the sum of the balances that the one-step machine sees
+/// at one timestamp, at or above each commit that a line is told.
 pub fn run_script<F, M, G, R, B, W>(
     rt: &R,
     alloc: Global,
@@ -102,7 +103,8 @@ where
     B: BufRead,
     W: Write,
     ensures told { IfOk result (λ r. IfSome r.1 (λ played. TellsOutcomes played.seen.events played.replies)) }
-    ensures pairs { IfOk result (λ r. IfSome r.1 (λ played. All (TellsPair (B.remaining reader.old)) played.replies)) }
+    ensures pairs { IfOk result
+        (λ r. IfSome r.1 (λ played. All (TellsPair (B.remaining reader.old)) played.replies)) }
     ensures tells { IfOk result
         (λ r. IfSome r.1 (λ played. AllTell (B.remaining reader.old) played.seen played.replies)) }
     ensures comes { IfOk result

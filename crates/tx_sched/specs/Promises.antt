@@ -2,7 +2,8 @@
 use Rattle.std.specs.Prelude.{ℕ, ◌≡◌, List, [], ◌∷◌, ◌+◌, ◌*◌, ◌^◌, ◌%◌, Option, Some, None, slice_get, slice_index_or, Bool, true, false}
 
 -- a result is what a job promised, and tells its number
-abbrev pub KeepsPromise : {J Out : Type 0} → (J → Out → Type 0) → (J → ℕ) → (Out → ℕ) → J → Out → Type 0
+abbrev pub KeepsPromise : {J Out : Type 0} → (J → Out → Type 0) → (J → ℕ) → (Out → ℕ) → J → Out
+    → Type 0
 KeepsPromise promised numbered tells job out = promised job out × (tells out ≡ numbered job)
 
 -- the results are those of the jobs, index by index

@@ -42,7 +42,8 @@ module _ (bounds : List Key) (lines : List (List ℕ)) where
     pub engine : Held
     pub split : lines ≡ first ++ line ∷ rest
     pub so_far : SoFar bounds first done number engine
-    pub halts : (refused : List Bool) → line_turn bounds refused (number + 1) line (engine_state engine) ≡ stops Order
+    pub halts : (refused : List Bool)
+        → line_turn bounds refused (number + 1) line (engine_state engine) ≡ stops Order
     pub stage : line_stage (engine_state engine) (number + 1) line ≡ Some found
 
   -- what is noted of the session, where it is

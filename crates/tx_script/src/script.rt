@@ -51,8 +51,9 @@ fn play_lines<J: JournalId, F: Families, R: BufRead, W: Write>(
     ensures breaks { IfErr result (λ why. length engine.new.network.newest ≤ own engine.new → (lines : List (List ℕ))
         → Ahead first line.old.items (R.remaining reader.old) lines
         → BreaksAt J.bounds lines why engine.new.network.newest (W.contents writer.old) (W.contents writer.new)) }
-    ensures staged { IfOk result (λ _. length engine.new.network.newest ≤ own engine.new → (lines : List (List ℕ))
-        → Ahead first line.old.items (R.remaining reader.old) lines → NotesStage J.bounds lines stage.new) }
+    ensures staged { IfOk result (λ _. length engine.new.network.newest ≤ own engine.new
+        → (lines : List (List ℕ)) → Ahead first line.old.items (R.remaining reader.old) lines
+        → NotesStage J.bounds lines stage.new) }
     ensures numbered { IfOk result (λ end. end ≡ End.Well → length engine.new.network.newest ≤ own engine.new
         → IsWorldRun J.bounds engine.new.network.newest → IsTraced engine.old.network → (lines : List (List ℕ))
         → Ahead first line.old.items (R.remaining reader.old) lines

@@ -15,7 +15,8 @@ use Rattle.tx_simple.specs.Updates.{SeatGoesOn, EndedWith, TriesInVain, Works, C
 
 -- the session over this seat ended so, with this value, this stopped it, and the other seat is this
 -- one
-abbrev pub EndsFrom : {J O E : Type 0} → List Key → Known → Seated → Known → Option O → Option (Failure E) → Ended J O E
+abbrev pub EndsFrom : {J O E : Type 0} → List Key → Known → Seated → Known → Option O
+    → Option (Failure E) → Ended J O E
     → Type 0
 EndsFrom bounds begins session resolves value stop e = (ends : EndedWith bounds begins e.start e.outcome e.seats.begins)
     × (ends.session ≡ session) × (e.seats.resolves ≡ resolves) × (e.value ≡ value) × (e.stop ≡ stop)
@@ -26,8 +27,8 @@ IsOpen session resolves stop (unended.Spent seats) = ⊥
 IsOpen session resolves stop (unended.Open again same why) = (finish_of session.state ≡ None)
     × (again ≡ session) × (same ≡ resolves) × (why ≡ stop)
 
-module _ {W O E : Type 0} (does : W → Entries → Result O (Failure E) → Entries → W → Type 0) (bounds : List Key)
-    (terms : Terms) where
+module _ {W O E : Type 0} (does : W → Entries → Result O (Failure E) → Entries → W → Type 0)
+    (bounds : List Key) (terms : Terms) where
   -- a session began over this seat, the work was done in it, and it has no outcome
   pub record StaysOpen (last : Known) (session : Seated) (stop : Option (Failure E)) (between new : W) : Type 0 where
     pub begun : Seated
@@ -38,8 +39,8 @@ module _ {W O E : Type 0} (does : W → Entries → Result O (Failure E) → Ent
     pub works : Works does bounds terms begun session value stop between new
     pub none : finish_of session.state ≡ None
 
-module _ {J W O E : Type 0} (does : W → Entries → Result O (Failure E) → Entries → W → Type 0) (bounds : List Key)
-    (terms : Terms) where
+module _ {J W O E : Type 0} (does : W → Entries → Result O (Failure E) → Entries → W → Type 0)
+    (bounds : List Key) (terms : Terms) where
   -- How the last try ended, after so many that came to nothing: a transaction began over the seat
   -- that begins and ended so, the work was done in it, and the other seat went on. A commit lies
   -- above each that the seat knew to be decided before the first.

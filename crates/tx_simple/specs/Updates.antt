@@ -110,8 +110,8 @@ module _ {W O E : Type 0} (does : W → Entries → Result O (Failure E) → Ent
     pub wrote : OnNoStop stop (Wrote bounds terms begun.state.start entered before session.seat)
 
   -- A try that is over and came to nothing: the seat began a transaction, went on within it alone,
-  -- and answered of it, of which nothing was declared, or it is decided that it is aborted; and what
-  -- stopped it may pass.
+  -- and answered of it, of which nothing was declared, or it is decided that it is aborted; and
+  -- what stopped it may pass.
   pub record ComesToNothing (old new : Known) (before after_it : W) : Type 0 where
     pub begun : Seated
     pub began : BeganAt bounds old begun.state.start begun.seat

@@ -40,6 +40,7 @@ NoNewline line = All (λ x. x ≢ 10) line
 -- what was taken of known bytes, and put at the end of a line
 abbrev pub TakesBytes : Option (List ℕ) → Option (List ℕ) → List ℕ → List ℕ → Took → Type 0
 TakesBytes old new before after Nothing = (after ≡ before) × Consumes old new [] × IfSome old (λ _. IsAtEnd new)
-TakesBytes old new before after Part = (bs : List ℕ) × (after ≡ before ++ bs) × NoNewline bs × Consumes old new bs
+TakesBytes old new before after Part = (bs : List ℕ) × (after ≡ before ++ bs) × NoNewline bs
+    × Consumes old new bs
 TakesBytes old new before after Rest = (bs : List ℕ) × (after ≡ before ++ bs) × NoNewline bs
     × Consumes old new (bs ++ 10 ∷ [])

@@ -124,7 +124,8 @@ Closes t steps between new (Some c) = (steps_of new ≡ step.Commit t c ∷ step
 
 -- A key of a transaction is locked with the minimum m, after these steps and where these are kept:
 -- where the transaction is kept, the key is accepted, and the last key commits it.
-pub record Locked (t : ℕ) (k : Key) (m : ℕ) (steps : List Step) (kept : PendingByStart) (new : TraceLog) : Type 0 where
+pub record Locked (t : ℕ) (k : Key) (m : ℕ) (steps : List Step) (kept : PendingByStart)
+    (new : TraceLog) : Type 0 where
   pub between : PendingByStart
   pub commit : Option ℕ
   pub accepts : AcceptsIn t k m kept between commit

@@ -167,7 +167,8 @@ impl KeyEntries {
     /// send.
     pub(crate) fn settled(&self, phase: Phase) -> (usize, usize)
         ensures within { result.0 ≤ length self.now }
-        ensures settled { (k : ℕ) → result.0 ≤ k → k < result.1 → wants phase (progress_at self.now k) ≡ false }
+        ensures settled { (k : ℕ) → result.0 ≤ k → k < result.1
+            → wants phase (progress_at self.now k) ≡ false }
     {
         let few = self.few.len();
         let keys = self.settled.keys(phase);

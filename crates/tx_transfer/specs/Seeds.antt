@@ -19,7 +19,8 @@ IsTextFault key value e = ((e ≡ fault.KeyLength) × (is_key key ≡ false))
 
 -- a key would be one too many, ticks are spent, or there is no memory
 abbrev pub IsWriteFault : Bool → Fault → Type 0
-IsWriteFault full e = ((e ≡ fault.TooManyKeys) × (full ≡ true)) ⊎ (e ≡ fault.OracleSpent) ⊎ (e ≡ fault.OutOfMemory)
+IsWriteFault full e = ((e ≡ fault.TooManyKeys) × (full ≡ true)) ⊎ (e ≡ fault.OracleSpent)
+    ⊎ (e ≡ fault.OutOfMemory)
 
 -- one of these, or ticks are spent; its key is never one too many
 abbrev pub IsSeedFault : List ℕ → List ℕ → Fault → Type 0
@@ -36,7 +37,8 @@ pub record WasSeeded (h : History) (key value : List ℕ) : Type 0 where
 
 -- within the crate: a session has declared just that
 abbrev pub PutsJust : List ℕ → List ℕ → SessionState → Type 0
-PutsJust key value s = (is_declared s ≡ true) × (changes_of s.buffer ≡ record { key = key; mutation = Put value } ∷ [])
+PutsJust key value s = (is_declared s ≡ true)
+    × (changes_of s.buffer ≡ record { key = key; mutation = Put value } ∷ [])
 
 -- within the crate: a session that has declared just that still has
 abbrev pub KeepsPut : SessionState → SessionState → Type 0

@@ -19,4 +19,5 @@ RepliesOver {S} sends = (a b : S) (q : Asked) (reached : Reached) → sends a q 
 -- whatever seat each request keeps of a way is kept
 abbrev pub KeepsSeats : {S : Type 0} → (S → Asked → Reached → S → Type 0) → S → S → Type 0
 KeepsSeats {S} sends from to = (part : S → Known)
-    → ((a b : S) (q : Asked) (reached : Reached) → sends a q reached b → part b ≡ part a) → part to ≡ part from
+    → ((a b : S) (q : Asked) (reached : Reached) → sends a q reached b → part b ≡ part a)
+    → part to ≡ part from

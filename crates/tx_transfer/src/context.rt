@@ -23,7 +23,8 @@ use tx_store::{Store, Wire};
 use tx_types::{Fault, Key, LockInfo, Ts};
 
 /// What the calls of a session need: a way to the store, by which they send, and a seat that
-/// resolves. It counts what stands in the way of what is sent, but not of what resolves or collects.
+/// resolves. It counts what stands in the way of what is sent, but not of what resolves or
+/// collects.
 #[derive(Drop)]
 pub struct Context<J: JournalId, F: Families + Drop, R: Wait + Drop> {
     pub alloc: Global,

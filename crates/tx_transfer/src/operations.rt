@@ -1,5 +1,5 @@
-//! What the lines of a session do to it, but those that begin or end a transaction: what tx_ops says,
-//! in its context, where a lock in its way may also be resolved.
+//! What the lines of a session do to it, but those that begin or end a transaction: what tx_ops
+//! says, in its context, where a lock in its way may also be resolved.
 ghost use Rattle.std.specs.Prelude.{◌≡◌, ◌≢◌, false, IfOk, Ok};
 ghost use Rattle.tx_reply.specs.declared.reply.ScriptReply.TheVariants as reply;
 ghost use Rattle.tx_steps.specs.Steps.{acted, called};

@@ -1,5 +1,6 @@
-//! What the sessions of a run send, over any way to the regions: what a line sends is its call's walk;
-//! what a transfer sends keeps what its session writes; a page of rows is what the machine sees.
+//! What the sessions of a run send, over any way to the regions: what a line sends is its call's
+//! walk; what a transfer sends keeps what its session writes; a page of rows is what the machine
+//! sees.
 ghost use Rattle.std.specs.Prelude.{◌≡◌, ◌≢◌, ℕ, true, false, IfOk, Ok};
 ghost use Rattle.tx_types.specs.Keys.{AreRising};
 ghost use Rattle.tx_core.specs.Histories.{Begins};

@@ -109,7 +109,8 @@ impl<J: JournalId, F: Families> Region<J, F> {
         attempt: &mut Attempt<J>,
     ) -> Option<Told<J>>
         requires holds { Holds J.bounds self.old.seat request.now.body }
-        requires of { IsSomeAnd attempt.old.plan (λ plan. IsPlanFor request.now plan × (plan.region ≡ self.old.seat)) }
+        requires of { IsSomeAnd attempt.old.plan
+            (λ plan. IsPlanFor request.now plan × (plan.region ≡ self.old.seat)) }
         ensures same { (self.new.seat ≡ self.old.seat) × (self.new.ticks ≡ self.old.ticks) }
         ensures comes { IfSome attempt.old.plan (λ plan. ComesIn J.bounds self.old.seat self.old.events
             self.new.events request.now plan attempt.new.answer result) }

@@ -29,8 +29,8 @@ fn needs_mark(body: &Body) -> bool
     }
 }
 
-/// The greatest timestamp that was read, where the answer to a request may look at it: the seat then
-/// knows the whole history.
+/// The greatest timestamp that was read, where the answer to a request may look at it: the seat
+/// then knows the whole history.
 pub(crate) fn load_mark<J: JournalId>(seat: &mut Seat<J>, body: &Body) -> Ts
     ensures same { (seat.new.seat ≡ seat.old.seat) × (seat.new.ticks ≡ seat.old.ticks) }
     ensures seen { HasSeen J.bounds seat.old.seat seat.old.events seat.new.events }
