@@ -4,12 +4,12 @@
 
 ghost use Rattle.std.specs.Prelude.{◌≡◌, length};
 
-mod opening;
+mod regions;
 mod story;
 mod table;
 
 use anyhow::{Result, bail};
-use opening::{journal, store};
+use regions::{journal, store};
 use std::alloc::Global;
 use std::marker::Brand;
 use std::sync::Wait;

@@ -5,11 +5,11 @@
 //! over both families, and the run of a script is shown as `NAME.script.text`, of four as
 //! `NAME.script.svg` too; with the machine's steps as `NAME.script.machine.text`, of one as
 //! `NAME.script.machine.svg`. Many small ones stand in `scripts.rows`, `checked.rows` (played as
-//! `txkv simulate --check` does), `numbered.rows` (the same, with the number of its line beside each
-//! step), `traces.rows`, `histories.rows` (judged as `txkv import` does, and the trace of each yes
-//! is checked), `ordered.rows` (the same with `--sessions --strict`) and `all.rows` (with `--all`),
-//! each with what it writes. The picture of a history (`NAME.history`, drawn as `txkv import --svg`
-//! does) is shown as `NAME.history.svg`.
+//! `txkv simulate --check` does), `numbered.rows` (the same, with the number of its line beside
+//! each step), `traces.rows`, `histories.rows` (judged as `txkv import` does, and the trace of each
+//! yes is checked), `ordered.rows` (the same with `--sessions --strict`) and `all.rows` (with
+//! `--all`), each with what it writes. The picture of a history (`NAME.history`, drawn as `txkv
+//! import --svg` does) is shown as `NAME.history.svg`.
 #![tactic(auto)]
 
 mod rows;

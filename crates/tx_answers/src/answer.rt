@@ -1,5 +1,5 @@
 //! Judging a history: its lines are read, and one line is written with the verdict.
-ghost use Rattle.std.specs.Prelude.{◌≡◌, ◌⊎◌, ℕ, List, OnOk, OnErr, IfOk, IfErr, IfSome};
+ghost use Rattle.std.specs.Prelude.{◌≡◌, ◌⊎◌, OnOk, OnErr, IfOk, IfErr, IfSome};
 ghost use Rattle.std.specs.Io.KnownBytes.{Appends};
 ghost use Rattle.tx_text.specs.Faults.{fault_words};
 ghost use Rattle.tx_text.specs.Lines.{lines_of};

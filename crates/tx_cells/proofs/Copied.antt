@@ -18,8 +18,8 @@ use Rattle.tx_cells.specs.declared.copies.KeyVersions.{KeyVersions}
 use Rattle.tx_cells.specs.Heads.{write_head, lock_head, keeps_apart}
 use Rattle.tx_cells.specs.Contents.{OnKey, nothing_held, cells_of, lock_of, whole, IsKept, IsWhole}
 use Rattle.tx_cells.specs.Copies.{AreFalling, times_of, HasLongValue, Copies}
-use Rattle.tx_cells.proofs.Falling.{some_none}
-use Rattle.tx_cells.proofs.Showing.{lock_heads, write_heads, kept_commit, stands_commit}
+use Rattle.tx_cells.proofs.NewestFirst.{some_none}
+use Rattle.tx_cells.proofs.RecordCells.{lock_heads, write_heads, kept_commit, stands_commit}
 use Rattle.tx_cells.proofs.WholeAfter.{lock_there}
 
 -- ---- a long value is kept apart, and no other

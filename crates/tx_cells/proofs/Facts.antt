@@ -12,7 +12,7 @@ use Rattle.tx_types.specs.declared.write.CommitRec.{CommitRec}
 use Rattle.tx_types.specs.declared.write.WriteRec.TheVariants.{Commit}
 use Rattle.tx_cells.specs.Contents.{OnKey, cells_of, IsWhole, IsKept}
 use Rattle.tx_cells.specs.Histories.{AreDated, AreFitting}
-use Rattle.tx_cells.proofs.Showing.{stands_commit}
+use Rattle.tx_cells.proofs.RecordCells.{stands_commit}
 use Rattle.tx_plan.specs.declared.key_change.KeyChange.{KeyChange}
 use Rattle.tx_plan.specs.Changes.{Applies, changed}
 use Rattle.tx_cells.specs.Afterwards.{after}

@@ -25,7 +25,7 @@ use Rattle.tx_cells.specs.Heads.{keeps_apart}
 use Rattle.tx_cells.specs.Contents.{OnKey, cells_of, lock_of, IsWhole, IsKept, LockKeeps, WriteKeeps}
 use Rattle.tx_plan.specs.Sound.{IsSound}
 use Rattle.tx_cells.specs.Afterwards.{after, after_left, with_lock, with_ttl, with_min, with_record, without_value, with_value, with_mark, marked, on_lock, commit_of, put_on, lock_put, stored_of, apart_of}
-use Rattle.tx_cells.proofs.Showing.{stands_commit}
+use Rattle.tx_cells.proofs.RecordCells.{stands_commit}
 use Rattle.tx_plan.proofs.Sound.{sound_changed, sound_put}
 use Rattle.tx_cells.proofs.CellsAfter.{cells_after, cells_put, without_apart, with_apart, alone, uncommitted}
 

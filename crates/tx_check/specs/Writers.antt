@@ -1,6 +1,6 @@
 -- Who wrote the value that a refused read claims, and what became of him, by the steps that were
 -- made. Lists of steps are oldest first: the step at i is that of line i + 1.
-use Rattle.std.specs.Prelude.{ℕ, ◌+◌, ◌==◌, Bool, true, false, List, [], Option, Some, None, bytes_eq, codes, ◌&&◌}
+use Rattle.std.specs.Prelude.{ℕ, ◌+◌, ◌==◌, Bool, false, List, [], Option, Some, None, bytes_eq, codes, ◌&&◌}
 use Rattle.std.specs.List.{list_any, position, slice_get}
 use Rattle.serde_json.specs.Data.{Data, Items, no_items, item, Members, no_members, member, number, unsigned, string, null, object}
 use Rattle.tx_types.specs.declared.key.Key.{Key}

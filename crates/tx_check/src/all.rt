@@ -1,6 +1,6 @@
 //! Checking a trace to its end: a step that the machine does not make is told, and taken as not
 //! made.
-ghost use Rattle.std.specs.Prelude.{◌≡◌, ◌++◌, [], ℕ, List, cond, OnOk, IfOk, IfErr, IfSome};
+ghost use Rattle.std.specs.Prelude.{◌≡◌, ◌++◌, [], cond, OnOk, IfOk, IfErr, IfSome};
 ghost use Rattle.tx_machine.specs.declared.reason.Why.{Why};
 ghost use Rattle.tx_machine.specs.Machine.{Table, Admits};
 ghost use Rattle.tx_machine.specs.Representation.{Represents};

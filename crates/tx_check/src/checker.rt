@@ -1,6 +1,6 @@
 //! Checking a trace: each line is read as a step and made by the machine, and one line is written,
 //! with the verdict, and where it is asked for and the verdict is no one more, with the reason.
-ghost use Rattle.std.specs.Prelude.{◌≡◌, ◌≤◌, ℕ, List, ◌++◌, length, option_map, option_and_then, OnOk, OnErr, IfOk, IfErr, IfSome};
+ghost use Rattle.std.specs.Prelude.{◌≡◌, ◌≤◌, length, option_map, option_and_then, OnOk, OnErr, IfOk, IfErr, IfSome};
 ghost use Rattle.std.specs.Io.KnownBytes.{Appends};
 ghost use Rattle.serde_json.specs.View.{view};
 ghost use Rattle.tx_check.specs.MachineSteps.{step_alone, step_beside, step_of};

@@ -1,5 +1,5 @@
 //! The line that says who wrote what a refused read claims, and what became of him.
-ghost use Rattle.std.specs.Prelude.{◌≡◌, ◌++◌, ◌∷◌, ◌+◌, ◌<◌, ◌≤◌, List, length, decimal, OnOk, IfSome};
+ghost use Rattle.std.specs.Prelude.{◌≡◌, ◌++◌, ◌∷◌, ◌+◌, ◌<◌, ◌≤◌, length, decimal, OnOk, IfSome};
 ghost use Rattle.std.specs.List.{list_any, position, slice_get};
 ghost use Rattle.serde_json.specs.Written.{compact_text};
 ghost use Rattle.serde_json.specs.Data.{object};

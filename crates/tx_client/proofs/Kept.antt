@@ -14,10 +14,10 @@ use Rattle.tx_core.specs.Allowed.{AllowsRead}
 use Rattle.tx_core.specs.Worlds.{IsWorldRun, MayAnswer}
 use Rattle.tx_core.proofs.Basics.{some_of, is_some}
 use Rattle.tx_core.proofs.seats.Beginnings.{extends_begins}
-use Rattle.tx_core.proofs.seats.Staying.{drawer_on, began_on, declared_on, among_on, told_on, accepted_on}
+use Rattle.tx_core.proofs.seats.Stays.{drawer_on, began_on, declared_on, among_on, told_on, accepted_on}
 use Rattle.tx_core.proofs.seats.StaysAllowed.{allowed_on}
 use Rattle.tx_core.proofs.seats.StaysDecided.{two_phase_on, all_accepted_on, drew_on}
-use Rattle.tx_core.proofs.seats.Answering.{may_commit_on}
+use Rattle.tx_core.proofs.seats.Replies.{may_commit_on}
 use Rattle.tx_core.proofs.seats.Recording.{undeclared_on, unanswered_on}
 use Rattle.tx_core.proofs.locks.ToldLocks.{is_lock_on}
 use Rattle.tx_transaction.specs.Buffers.{Entries}
@@ -25,13 +25,25 @@ use Rattle.tx_transaction.specs.Sessions.{SessionState, outcome_of}
 use Rattle.tx_client.specs.Facts.{WasMet, standing, Mark, Marks, IsReady, IsSession}
 
 accepted_still : (l h : History) → Begins l h → (t : ℕ) (k : Key) → accepted l t k ≢ None → accepted h t k ≢ None
-accepted_still l h b t k some = (let by = some_of (accepted l t k) some in is_some (accepted h t k) by.0 (accepted_on l h b t k by.0 by.1))
+accepted_still l h b t k some = (let by = some_of (accepted l t k) some in is_some (accepted h t k) by.0
+    (accepted_on l h b t k by.0 by.1))
 
 module _ (bounds : List Key) (l h : History) (run : IsWorldRun bounds h) (b : Begins l h) where
   pub mark_on : (t : ℕ) (k : Key) (o : Option ℕ) → Mark l t k o → Mark h t k o
   mark_on t k None m = tt
-  mark_on t k (Some zero) m = record { accepted = accepted_still l h b t k m.accepted; two_phase = two_phase_on l h b t m.two_phase }
-  mark_on t k (Some (suc n)) m = record { info = m.info; is = is_lock_on bounds l h run b m.info m.is; key = m.key; own = m.own; async = m.async; min = m.min }
+  mark_on t k (Some zero) m = record {
+    accepted = accepted_still l h b t k m.accepted;
+    two_phase =
+        two_phase_on l h b t m.two_phase;
+  }
+  mark_on t k (Some (suc n)) m = record {
+    info = m.info;
+    is = is_lock_on bounds l h run b m.info m.is;
+    key = m.key;
+    own = m.own;
+    async = m.async;
+    min = m.min;
+  }
 
   pub marks_on : (t : ℕ) (es : Entries) → Marks l t es → Marks h t es
   marks_on t [] m = tt
@@ -61,7 +73,8 @@ module _ (bounds : List Key) (l h : History) (run : IsWorldRun bounds h) (b : Be
   )
 
 -- others act
-pub others_act : (bounds : List Key) (l h : History) → IsWorldRun bounds h → (i : ℕ) (s : SessionState) → Extends i l h → IsSession l i s → IsSession h i s
+pub others_act : (bounds : List Key) (l h : History) → IsWorldRun bounds h → (i : ℕ) (s : SessionState)
+    → Extends i l h → IsSession l i s → IsSession h i s
 others_act bounds l h run i s goes is =
     record {
       drew_start = drawer_on bounds l h run b s.start i is.drew_start;

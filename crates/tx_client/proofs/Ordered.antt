@@ -18,7 +18,7 @@ use Rattle.tx_core.specs.Shadow.{shadow}
 use Rattle.tx_core.specs.Worlds.{IsWorldRun}
 use Rattle.tx_core.proofs.Basics.{nat_same}
 use Rattle.tx_core.proofs.seats.Beginnings.{begins_all, begins_more, extends_begins}
-use Rattle.tx_core.proofs.seats.Staying.{declared_on}
+use Rattle.tx_core.proofs.seats.Stays.{declared_on}
 use Rattle.tx_core.proofs.runs.CommitOrder.{decided_below, drawn_after, decided_before_on, decided_in_order, reads_decided}
 use Rattle.tx_core.proofs.runs.Consequences.{decided_declared}
 use Rattle.tx_journal.specs.Known.{Known, HasRecorded, HasDrawn}

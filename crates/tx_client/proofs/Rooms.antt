@@ -13,7 +13,7 @@ use Rattle.tx_core.specs.Histories.{History, last, left}
 use Rattle.tx_core.specs.Worlds.{IsWorldRun}
 use Rattle.tx_client.specs.Facts.{WasAnswered}
 use Rattle.tx_client.specs.Rooms.{IsScan, HasUpto}
-use Rattle.tx_client.proofs.Marking.{taken_there}
+use Rattle.tx_client.proofs.Marks.{taken_there}
 
 gives_upto : (r : Region) (l top : ℕ) (b : Scan) (a : Answer) (found : List KeyValue)
     → Answers r l top (request.Scan b) a → a ≡ Rows found → length found ≤ b.limit

@@ -56,7 +56,8 @@ pub(crate) fn ask_with_lock<J: JournalId, S: Sender<Request<J>, Reply<J>>>(
     on_reply(seat, sender.send(Request::new(told, body)))
 }
 
-/// The same, where no copy of a lock is kept.
+/// Sends a request, once, that is allowed after what the seat has seen, and learns what is told.
+/// `Lost` where no reply came, `Fault` where memory was refused to the region.
 pub fn ask<J: JournalId, S: Sender<Request<J>, Reply<J>>>(
     seat: &mut Seat<J>,
     body: Body,

@@ -1,2 +1,2 @@
-pub mod Running
-pub mod Ticking
+pub mod NextEvents
+pub mod ClockOrder

@@ -1,5 +1,5 @@
 //! Whether timestamps keep the order of the recorder's clock.
-ghost use Rattle.std.specs.Prelude.{◌≡◌, ℕ, ◌<◌, ◌≤◌, length, Contains, Some, OnOk, IfOk, IsTrue, true, false, slice_index};
+ghost use Rattle.std.specs.Prelude.{◌≡◌, ℕ, ◌<◌, Contains, Some, OnOk, IfOk, IsTrue, true, false};
 ghost use Rattle.tx_recording.specs.declared.recording.Outcome.TheVariants.{Ok as Committed};
 ghost use Rattle.tx_recording.specs.Recordings.{IsRecording, txns_of, transaction_at};
 ghost use Rattle.tx_clock.specs.declared.clock.Event.{Event};

@@ -1,5 +1,5 @@
 //! Whether timestamps keep the orders that are asked for.
-ghost use Rattle.std.specs.Prelude.{◌≡◌, IfOk, IsTrue, false};
+ghost use Rattle.std.specs.Prelude.{IfOk, IsTrue, false};
 ghost use Rattle.tx_recording.specs.Explanations.{IsSession, IsEarlier, Precedes};
 ghost use Rattle.tx_recording.specs.Recordings.{IsRecording};
 ghost use Rattle.tx_clock.specs.KeptOrder.{KeepsPairs};

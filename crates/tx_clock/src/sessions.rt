@@ -1,6 +1,5 @@
 //! Whether timestamps keep the order in which each process ran its transactions.
-ghost use Rattle.std.specs.Prelude.{◌≡◌, ℕ, ◌<◌, ◌≤◌, length, Some, None, IfSome, IfOk, IsTrue, true, false, slice_index};
-ghost use Rattle.tx_recording.specs.Recordings.{IsRecording};
+ghost use Rattle.std.specs.Prelude.{◌≡◌, ◌<◌, ◌≤◌, Some, None, IfSome, IfOk, IsTrue, true, false, slice_index};
 ghost use Rattle.tx_recording.specs.Explanations.{IsSession};
 ghost use Rattle.tx_clock.specs.KeptOrder.{live_in, KeepsPairs};
 

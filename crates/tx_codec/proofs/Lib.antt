@@ -3,7 +3,7 @@ pub mod Lists
 -- An encoded key, a group at a time.
 pub mod Groups
 -- A key that is read a group at a time.
-pub mod KeyReading
+pub mod KeyReads
 -- The order of numbers is that of their bytes, the highest first.
 pub mod Numbers
 -- Encoded keys, a byte at a time, and their order.

@@ -90,18 +90,24 @@ static JOBS: [(&str, CommandTask, Option<&str>); 21] = [
     ),
 ];
 
+/// Whether a command line asks for this job.
+pub(crate) fn asks_for(alloc: Global, line: &str, job: CommandLine<'_>) -> Result<bool, Fail> {
+    let words = words_of(alloc, line)?;
+    let matches = parse(alloc, words.as_slice())?;
+    Ok(job_of(&matches) == job)
+}
+
 #[test]
 fn command_lines_say_jobs(rt: HostRuntime) -> Result<(), Fail> {
     for (line, task, file) in JOBS {
-        let words = words_of(rt.alloc(), line)?;
-        let matches = parse(rt.alloc(), words.as_slice())?;
         let job = CommandLine {
             task,
             cells: CellsKind::Flat,
             has_stats: false,
             file,
         };
-        assert_eq!(rt; job_of(&matches), job, "{line}");
+        let is_asked = asks_for(rt.alloc(), line, job)?;
+        assert!(rt; is_asked, "{line}");
     }
     Ok(())
 }
@@ -122,12 +128,19 @@ static STATS: [(&str, bool); 3] = [
     ("run --stats --workers 2 a", true),
 ];
 
+// Whether a command line asks for what the run came to, and the families that it asks for.
+fn asked_of(alloc: Global, line: &str) -> Result<(bool, CellsKind), Fail> {
+    let words = words_of(alloc, line)?;
+    let matches = parse(alloc, words.as_slice())?;
+    let job = job_of(&matches);
+    Ok((job.has_stats, job.cells))
+}
+
 #[test]
 fn command_lines_ask_for_stats(rt: HostRuntime) -> Result<(), Fail> {
     for (line, has_stats) in STATS {
-        let words = words_of(rt.alloc(), line)?;
-        let matches = parse(rt.alloc(), words.as_slice())?;
-        assert_eq!(rt; job_of(&matches).has_stats, has_stats, "{line}");
+        let (is_asked, _) = asked_of(rt.alloc(), line)?;
+        assert!(rt; is_asked == has_stats, "{line}");
     }
     Ok(())
 }
@@ -135,9 +148,8 @@ fn command_lines_ask_for_stats(rt: HostRuntime) -> Result<(), Fail> {
 #[test]
 fn command_lines_say_families(rt: HostRuntime) -> Result<(), Fail> {
     for (line, cells) in CELLS {
-        let words = words_of(rt.alloc(), line)?;
-        let matches = parse(rt.alloc(), words.as_slice())?;
-        assert_eq!(rt; job_of(&matches).cells, cells, "{line}");
+        let (_, asked) = asked_of(rt.alloc(), line)?;
+        assert!(rt; asked == cells, "{line}");
     }
     Ok(())
 }
@@ -224,19 +236,35 @@ static FAULTS: [(&str, &str); 19] = [
     ),
 ];
 
+/// What is shown in place of a job: the text, what kind it is of, and whether it is a fault's. None
+/// where there is a job.
+pub(crate) fn shown_for(
+    alloc: Global,
+    line: &str,
+) -> Result<Option<(String, ErrorKind, bool)>, Fail> {
+    let words = words_of(alloc, line)?;
+    match parse(alloc, words.as_slice()) {
+        Ok(_) => Ok(None),
+        Err(error) => {
+            let told = format!(in alloc; "{error}")?;
+            Ok(Some((told, error.kind(), error.use_stderr())))
+        }
+    }
+}
+
+// Whether a command line is at fault, and just this is told of it before the last line.
+fn is_fault(alloc: Global, line: &str, text: &str) -> Result<bool, Fail> {
+    match shown_for(alloc, line)? {
+        Some((told, _, true)) => Ok(told.strip_suffix(TRY_HELP) == Some(text)),
+        _ => Ok(false),
+    }
+}
+
 #[test]
 fn faults_of_the_command_line_are_told(rt: HostRuntime) -> Result<(), Fail> {
     for (line, text) in FAULTS {
-        let words = words_of(rt.alloc(), line)?;
-        match parse(rt.alloc(), words.as_slice()) {
-            Ok(_) => assert!(rt; false, "{line}: taken"),
-            Err(error) => {
-                let told = format!(in rt.alloc(); "{error}")?;
-                let wanted = format!(in rt.alloc(); "{text}{TRY_HELP}")?;
-                assert_eq!(rt; told.as_str(), wanted.as_str());
-                assert!(rt; error.use_stderr(), "{line}");
-            }
-        }
+        let is_fault = is_fault(rt.alloc(), line, text)?;
+        assert!(rt; is_fault, "{line}");
     }
     Ok(())
 }
@@ -367,35 +395,42 @@ static HELPS: [(&str, &str, &str); 13] = [
     ),
 ];
 
+// Whether a command line asks for a text of this kind that begins and ends so.
+fn is_shown(
+    alloc: Global,
+    line: &str,
+    kind: ErrorKind,
+    beginning: &str,
+    ending: &str,
+) -> Result<bool, Fail> {
+    match shown_for(alloc, line)? {
+        Some((told, of, false)) => {
+            Ok(of == kind && told.starts_with(beginning) && told.ends_with(ending))
+        }
+        _ => Ok(false),
+    }
+}
+
 #[test]
 fn help_is_told(rt: HostRuntime) -> Result<(), Fail> {
     for (line, beginning, ending) in HELPS {
-        let words = words_of(rt.alloc(), line)?;
-        match parse(rt.alloc(), words.as_slice()) {
-            Ok(_) => assert!(rt; false, "{line}: taken"),
-            Err(error) => {
-                let told = format!(in rt.alloc(); "{error}")?;
-                assert!(rt; told.starts_with(beginning), "{line}: {told}");
-                assert!(rt; told.ends_with(ending), "{line}: {told}");
-                assert_eq!(rt; error.kind(), ErrorKind::DisplayHelp);
-                assert!(rt; !error.use_stderr(), "{line}");
-            }
-        }
+        let is_shown = is_shown(rt.alloc(), line, ErrorKind::DisplayHelp, beginning, ending)?;
+        assert!(rt; is_shown, "{line}");
     }
     Ok(())
 }
 
 #[test]
 fn version_is_told(rt: HostRuntime) -> Result<(), Fail> {
-    let words = words_of(rt.alloc(), "--version")?;
-    match parse(rt.alloc(), words.as_slice()) {
-        Ok(_) => assert!(rt; false),
-        Err(error) => {
-            let told = format!(in rt.alloc(); "{error}")?;
-            assert_eq!(rt; told.as_str(), "txkv 0.1.0\n");
-            assert_eq!(rt; error.kind(), ErrorKind::DisplayVersion);
-        }
-    }
+    let kind = ErrorKind::DisplayVersion;
+    let is_shown = is_shown(
+        rt.alloc(),
+        "--version",
+        kind,
+        "txkv 0.1.0\n",
+        "txkv 0.1.0\n",
+    )?;
+    assert!(rt; is_shown);
     Ok(())
 }
 
@@ -405,12 +440,18 @@ fn ends_have_statuses(rt: HostRuntime) {
     assert_eq!(rt; status_of(Ok(CommandEnd::of(End::Faulted))), 2);
     assert_eq!(rt; status_of(Ok(CommandEnd::of(End::No))), 3);
     assert_eq!(rt; status_of(Ok(CommandEnd::Open)), 5);
+}
+
+#[test]
+fn failures_are_told(rt: HostRuntime) {
     for (broken, message) in [
         (Broken::Input, "the input failed"),
         (Broken::Output, "the output failed"),
         (Broken::Memory, "out of memory"),
     ] {
-        assert_eq!(rt; status_of(Err(broken)), 4);
-        assert_eq!(rt; message_of(broken), message);
+        assert!(rt;
+            status_of(Err(broken)) == 4 && message_of(broken) == message,
+            "{message}"
+        );
     }
 }

@@ -1,9 +1,9 @@
 //! What a command line says of a script by chance.
-use crate::command_lines::words_of;
+use crate::command_lines::{asks_for, shown_for};
+use std::alloc::Global;
 use std::test::Fail;
 use tx_command::{
-    CellsKind, CommandLine, CommandTask, Display, GenerateOptions, Terminals, job_of, parse,
-    shown_at,
+    CellsKind, CommandLine, CommandTask, Display, GenerateOptions, Terminals, shown_at,
 };
 use tx_types::Mode;
 
@@ -69,9 +69,8 @@ static ASKED: [(&str, GenerateOptions); 5] = [
 #[test]
 fn command_lines_say_scripts(rt: HostRuntime) -> Result<(), Fail> {
     for (line, options) in ASKED {
-        let words = words_of(rt.alloc(), line)?;
-        let matches = parse(rt.alloc(), words.as_slice())?;
-        assert_eq!(rt; job_of(&matches), job(options), "{line}");
+        let is_asked = asks_for(rt.alloc(), line, job(options))?;
+        assert!(rt; is_asked, "{line}");
     }
     Ok(())
 }
@@ -108,17 +107,19 @@ static REFUSED: [(&str, &str); 7] = [
     ),
 ];
 
+// Whether a command line is refused with a text that begins so.
+fn is_refused(alloc: Global, line: &str, beginning: &str) -> Result<bool, Fail> {
+    match shown_for(alloc, line)? {
+        Some((told, _, _)) => Ok(told.starts_with(beginning)),
+        None => Ok(false),
+    }
+}
+
 #[test]
 fn other_scripts_are_refused(rt: HostRuntime) -> Result<(), Fail> {
     for (line, beginning) in REFUSED {
-        let words = words_of(rt.alloc(), line)?;
-        match parse(rt.alloc(), words.as_slice()) {
-            Ok(_) => assert!(rt; false, "{line}: taken"),
-            Err(error) => {
-                let told = format!(in rt.alloc(); "{error}")?;
-                assert!(rt; told.starts_with(beginning), "{line}: {told}");
-            }
-        }
+        let is_refused = is_refused(rt.alloc(), line, beginning)?;
+        assert!(rt; is_refused, "{line}");
     }
     Ok(())
 }

@@ -3,67 +3,61 @@ use std::test::Fail;
 use std::time::Duration;
 use tx_command::{CellsKind, CommandLine, CommandTask, Display, Stats, Terminals, shown_at};
 
-// Which streams are terminals: input, output, error.
-fn terminals_of(input: bool, output: bool, error: bool) -> Terminals {
-    Terminals {
-        input,
-        output,
-        error,
-    }
-}
+// Who types and sees the replies and standard error; whose input and output go elsewhere; and whose
+// input is a terminal alone.
+const TYPED: Terminals = Terminals {
+    input: true,
+    output: true,
+    error: true,
+};
 
-fn job_of(task: CommandTask, file: Option<&str>) -> CommandLine<'_> {
-    CommandLine {
-        task,
-        cells: CellsKind::Flat,
-        has_stats: false,
-        file,
-    }
-}
+const PIPED: Terminals = Terminals {
+    input: false,
+    output: false,
+    error: true,
+};
+
+const QUIET: Terminals = Terminals {
+    input: true,
+    output: false,
+    error: false,
+};
 
 // A prompt is for who types and sees the replies; the progress for who sees standard error while a
 // command is at work that writes nothing before its end.
+static SHOWN: [(CommandTask, Option<&str>, Terminals, Display); 9] = [
+    (CommandTask::Simulate, None, TYPED, Display::Prompts),
+    (CommandTask::Check, None, TYPED, Display::Prompts),
+    (CommandTask::Simulate, Some("a"), TYPED, Display::Nothing),
+    (CommandTask::Check, Some("a"), TYPED, Display::ProgressLine),
+    (
+        CommandTask::CheckWithReason,
+        Some("a"),
+        TYPED,
+        Display::ProgressLine,
+    ),
+    (
+        CommandTask::Run(2, None),
+        None,
+        PIPED,
+        Display::ProgressLine,
+    ),
+    (CommandTask::SimulateChecked, None, PIPED, Display::Nothing),
+    (CommandTask::Run(2, None), None, QUIET, Display::Nothing),
+    (CommandTask::Check, Some("a"), QUIET, Display::Nothing),
+];
+
 #[test]
 fn terminals_say_what_is_shown(rt: HostRuntime) {
-    let typed = terminals_of(true, true, true);
-    assert_eq!(rt;
-        shown_at(job_of(CommandTask::Simulate, None), typed),
-        Display::Prompts
-    );
-    assert_eq!(rt;
-        shown_at(job_of(CommandTask::Check, None), typed),
-        Display::Prompts
-    );
-    assert_eq!(rt;
-        shown_at(job_of(CommandTask::Simulate, Some("a")), typed),
-        Display::Nothing
-    );
-    assert_eq!(rt;
-        shown_at(job_of(CommandTask::Check, Some("a")), typed),
-        Display::ProgressLine
-    );
-    assert_eq!(rt;
-        shown_at(job_of(CommandTask::CheckWithReason, Some("a")), typed),
-        Display::ProgressLine
-    );
-    let piped = terminals_of(false, false, true);
-    assert_eq!(rt;
-        shown_at(job_of(CommandTask::Run(2, None), None), piped),
-        Display::ProgressLine
-    );
-    assert_eq!(rt;
-        shown_at(job_of(CommandTask::SimulateChecked, None), piped),
-        Display::Nothing
-    );
-    let quiet = terminals_of(true, false, false);
-    assert_eq!(rt;
-        shown_at(job_of(CommandTask::Run(2, None), None), quiet),
-        Display::Nothing
-    );
-    assert_eq!(rt;
-        shown_at(job_of(CommandTask::Check, Some("a")), quiet),
-        Display::Nothing
-    );
+    for (task, file, terminals, display) in SHOWN {
+        let job = CommandLine {
+            task,
+            cells: CellsKind::Flat,
+            has_stats: false,
+            file,
+        };
+        assert!(rt; shown_at(job, terminals) == display);
+    }
 }
 
 #[test]

@@ -1,4 +1,5 @@
 //! Streams that answer as they are asked, and the lines and faults that are kept of them.
+use std::alloc::Global;
 use std::cell::{Cell, RefCell};
 use std::fmt::Display;
 use std::io;
@@ -96,10 +97,11 @@ fn what_was_written_is_handed_on_before_a_read(rt: HostRuntime) -> Result<(), Fa
     let mut buf = [0u8; 8];
     for (round, read) in [(1, 3), (2, 3), (3, 1), (4, 0)] {
         writer.write_all(b"reply")?;
-        assert!(rt; handed_on(&written) < 5 * round, "before read {round}");
-        assert_eq!(rt; asking.read(&mut buf)?, read);
-        assert_eq!(rt; handed_on(&written), 5 * round, "after read {round}");
-        assert_eq!(rt; terminal.prompts.get(), round);
+        let before = handed_on(&written);
+        let len = asking.read(&mut buf)?;
+        let is_asked = len == read && terminal.prompts.get() == round;
+        let is_handed_on = before < 5 * round && handed_on(&written) == 5 * round;
+        assert!(rt; is_asked && is_handed_on, "read {round}");
     }
     assert!(rt; !asking.is_cut_off());
     Ok(())
@@ -141,32 +143,43 @@ fn nothing_is_read_where_nothing_can_be_handed_on(rt: HostRuntime) -> Result<(),
     Ok(())
 }
 
+// Whether the next line is this one, and is there once it was read.
+fn is_next(
+    reader: &mut Recent<Crumbs<'_>>,
+    line: &mut Vec<u8>,
+    number: u64,
+    wanted: &str,
+) -> Result<bool, Fail> {
+    let found = read_line(reader, line)?;
+    let is_read = found == Found::Line && line.as_slice() == wanted.as_bytes();
+    Ok(is_read && reader.line(number) == Some(wanted.as_bytes()))
+}
+
+// Whether each line is there once it was read, the last still at the end, and none that is none.
+fn keeps_lines(alloc: Global, text: &str, most: usize) -> Result<bool, Fail> {
+    let crumbs = Crumbs {
+        bytes: text.as_bytes(),
+        most,
+    };
+    let mut reader = Recent::with_block(alloc, 5, crumbs)?;
+    let mut line = Vec::new(alloc);
+    let mut are_kept = true;
+    for (number, wanted) in [(1, "ab"), (2, ""), (3, "cdefghij"), (4, "k"), (5, "lm")] {
+        are_kept &= is_next(&mut reader, &mut line, number, wanted)?;
+    }
+    let is_over = read_line(&mut reader, &mut line)? == Found::End;
+    let are_others = reader.line(0).is_some() || reader.line(6).is_some();
+    Ok(are_kept && is_over && !are_others && reader.line(5) == Some(b"lm".as_slice()))
+}
+
 // Whatever comes at a time, the line that was read last is there, and one that is still to come is
 // not.
 #[test]
 fn lines_at_hand_are_kept(rt: HostRuntime) -> Result<(), Fail> {
     let text = "ab\n\ncdefghij\nk\nlm";
     for most in 1..=text.len() {
-        let crumbs = Crumbs {
-            bytes: text.as_bytes(),
-            most,
-        };
-        let mut reader = Recent::with_block(rt.alloc(), 5, crumbs)?;
-        let mut line = Vec::new(rt.alloc());
-        for (number, wanted) in [(1, "ab"), (2, ""), (3, "cdefghij"), (4, "k"), (5, "lm")] {
-            assert_eq!(rt; read_line(&mut reader, &mut line)?, Found::Line);
-            assert_eq!(rt; line.as_slice(), wanted.as_bytes());
-            let kept = reader.line(number);
-            assert_eq!(rt;
-                kept,
-                Some(wanted.as_bytes()),
-                "line {number}, {most} bytes at a time"
-            );
-        }
-        assert_eq!(rt; read_line(&mut reader, &mut line)?, Found::End);
-        assert_eq!(rt; reader.line(0), None);
-        assert_eq!(rt; reader.line(5), Some(b"lm".as_slice()));
-        assert_eq!(rt; reader.line(6), None);
+        let are_kept = keeps_lines(rt.alloc(), text, most)?;
+        assert!(rt; are_kept, "{most} bytes at a time");
     }
     Ok(())
 }
@@ -259,23 +272,25 @@ static CHECKED: [&str; 8] = [
     "[3,\"E16\",\"order\"]\n",
 ];
 
+// Whether a writer that takes so many bytes at a time is given just the steps and the fault.
+fn tells_steps(alloc: Global, most: usize) -> Result<bool, Fail> {
+    let text = Vec::new(alloc);
+    let mut sips = Sips { text, most };
+    let mut steps = Steps::new(&mut sips);
+    for line in CHECKED {
+        steps.write_all(line.as_bytes())?;
+    }
+    steps.flush()?;
+    let wanted = "[\"draw\",1]\n[\"begin\",1]\n[2,[\"draw\",2]]\n[3,\"E16\",\"order\"]\n";
+    Ok(sips.text.as_slice() == wanted.as_bytes())
+}
+
 // However few bytes the writer below takes at a time, it is given the steps and the fault, whole.
 #[test]
 fn steps_are_told_alone(rt: HostRuntime) -> Result<(), Fail> {
     for most in 1..=24 {
-        let text = Vec::new(rt.alloc());
-        let mut sips = Sips { text, most };
-        let mut steps = Steps::new(&mut sips);
-        for line in CHECKED {
-            steps.write_all(line.as_bytes())?;
-        }
-        steps.flush()?;
-        let wanted = "[\"draw\",1]\n[\"begin\",1]\n[2,[\"draw\",2]]\n[3,\"E16\",\"order\"]\n";
-        assert_eq!(rt;
-            sips.text.as_slice(),
-            wanted.as_bytes(),
-            "{most} bytes at a time"
-        );
+        let are_told = tells_steps(rt.alloc(), most)?;
+        assert!(rt; are_told, "{most} bytes at a time");
     }
     Ok(())
 }

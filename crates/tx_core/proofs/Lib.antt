@@ -15,6 +15,6 @@ pub mod seats
 -- A region has one answer to each request.
 pub mod unique
 -- How a region goes on: until its next collection no state of a key comes back.
-pub mod going_on
+pub mod evolution
 -- Runs that exist, with what is decided in them and the machine's steps that are read off.
 mod examples

@@ -1,23 +1,23 @@
 -- Events that no region takes.
-pub mod Drawing
-pub mod Beginning
-pub mod Declaring
+pub mod Draws
+pub mod Begins
+pub mod Declarations
 -- Reads, and the numbers of a region.
-pub mod Reading
-pub mod Raising
+pub mod Reads
+pub mod Raises
 -- The cells of one key.
 pub mod Keyed
-pub mod Locking
+pub mod Locks
 pub mod HeartBeat
-pub mod Settling
-pub mod RollingBack
-pub mod Pushing
+pub mod Settlements
+pub mod Rollbacks
+pub mod Pushes
 -- The cells of a region.
-pub mod Collecting
+pub mod Collections
 -- Decisions.
-pub mod Deciding
-pub mod Aborting
+pub mod Commits
+pub mod Aborts
 -- With the machine's step that goes with each, and the ends of transactions.
 pub mod Sounds
-pub mod LockingEnds
+pub mod LockEnds
 pub mod CellsEnds

@@ -3,7 +3,7 @@
 pub mod Words
 pub mod RaisedMinimum
 pub mod CommitThenRead
-pub mod FallingBack
+pub mod Fallback
 pub mod PushThenPass
 pub mod MarkedRollback
 pub mod Collection

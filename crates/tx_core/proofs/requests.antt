@@ -1,7 +1,7 @@
 -- What holds of every history, and how an answer on one key keeps it.
 pub mod Good
 -- An answer that leaves a rollback.
-pub mod LeavingRollback
+pub mod LeftRollback
 -- Reads.
 pub mod Get
 pub mod Scan

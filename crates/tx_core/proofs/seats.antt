@@ -1,12 +1,12 @@
 -- Beginnings of a history, and the events of one seat in it.
 pub mod Beginnings
 pub mod Parts
-pub mod Counting
+pub mod Counts
 -- What stays, however a world run grows.
-pub mod Staying
+pub mod Stays
 pub mod StaysAllowed
 pub mod StaysDecided
-pub mod Answering
+pub mod Replies
 -- What a seat may record.
 pub mod Numbers
 pub mod Recording

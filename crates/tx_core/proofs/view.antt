@@ -2,5 +2,5 @@
 pub mod View
 pub mod Ends
 pub mod Tables
-pub mod Meeting
+pub mod Reads
 pub mod HistoryView

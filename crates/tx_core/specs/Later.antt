@@ -1,7 +1,7 @@
 -- How the cells of a key go on: what later cells may be, so that no state of a key comes back.
 use Rattle.std.specs.Prelude.{◌≡◌, ◌≢◌, ◌⊎◌, ℕ, ◌<◌, ◌≤◌, true, Option, Some, None}
 use Rattle.tx_types.specs.declared.key.Key.{Key}
-use Rattle.tx_plan.specs.Cells.{Lock, CommitRecord, Write, CommitOf, Rollback, Cells, Region}
+use Rattle.tx_plan.specs.Cells.{Lock, Write, CommitOf, Rollback, Cells, Region}
 use Rattle.tx_plan.specs.Own.{OwnRollback, marked}
 use Rattle.tx_plan.specs.Sound.{IsSound}
 use Rattle.tx_plan.specs.cases.Collect.{keeps}

@@ -1,5 +1,5 @@
 //! Laws of the case tables, and of the regions of a history.
-ghost use Rattle.std.specs.Prelude.{◌≡◌, ◌≢◌, ℕ, ◌<◌, ◌≤◌, List};
+ghost use Rattle.std.specs.Prelude.{◌≢◌, ℕ, List};
 ghost use Rattle.tx_types.specs.declared.key.Key.{Key};
 ghost use Rattle.tx_plan.specs.declared.body.Body.{Body};
 ghost use Rattle.tx_plan.specs.declared.answer.Answer.{Answer};

@@ -36,7 +36,7 @@ use Rattle.tx_types.specs.Lengths.{is_key}
 use Rattle.tx_ops.specs.Edits.{Edit, is_refused, later_of, puts, inserts, deletes, locks}
 use Rattle.tx_ops.specs.Edits as edit
 use Rattle.tx_ops.specs.Calls.{Said, read_reply, call_walk}
-use Rattle.tx_ops.proofs.Ending.{AllEnds, Any, all_end, Tells, call_tells}
+use Rattle.tx_ops.proofs.CallEnds.{AllEnds, Any, all_end, Tells, call_tells}
 use Rattle.tx_engine.specs.Semantics.{EngineState, Transition, goes, inquires, shows, stops, calls, at_network, began, declared_in, placed_in, placed, seat_at, answers, asked, sent, runs, came, first_free, live_at, is_too_many, edited, edits, sends, delivers, finishes_by, begins_at, in_session, turn, learns, resolves_by, collected_as, sends_by}
 use Rattle.tx_engine.specs.Plays.{Leads}
 

@@ -13,7 +13,7 @@ use Rattle.tx_network.specs.Networks.{AreNumbered, made_by, body_at}
 use Rattle.tx_engine.specs.Semantics.{free}
 use Rattle.tx_engine.specs.Slots.{Held, seat_in, slot_of, name_at, made_in, AreSeated, AllSeated}
 use Rattle.tx_engine.specs.Openings.{frees, AreDealt, IsOpening}
-use Rattle.tx_engine.proofs.Keeping.{seated_fewer}
+use Rattle.tx_engine.proofs.SlotCounts.{seated_fewer}
 
 dealt : (i : ℕ) (seats : List Known) → ((k : ℕ) → k < length seats
     → slice_get seats k ≡ Some (known (i + k) 4294967296 [])) → AreDealt i seats

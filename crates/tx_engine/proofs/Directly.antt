@@ -9,7 +9,7 @@ use Rattle.tx_client.specs.Walks.{Walk, asks, grows, ends, Sends}
 use Rattle.tx_steps.specs.declared.delivery.Delivery.TheVariants as deliveries
 use Rattle.tx_network.specs.Networks.{NetworkParts, made_by, Passes, network_state, Met, Runs}
 use Rattle.tx_engine.specs.Slots.{Serves}
-use Rattle.tx_network.proofs.Walking.{Comes, IsSame, same_learnt, rest_comes, take_one, one_comes, then_comes, or_comes}
+use Rattle.tx_network.proofs.Walks.{Comes, IsSame, same_learnt, rest_comes, take_one, one_comes, then_comes, or_comes}
 
 module _ {S : Type 0} (network : S → NetworkParts) (bounds : List Key) where
   -- each request is taken once, and its reply comes

@@ -36,9 +36,9 @@ use Rattle.tx_types.specs.Lengths.{is_key}
 use Rattle.tx_engine.specs.Semantics.{EngineState, Transition, free, session, goes, stops, asked, at_network, at_history, seat_at, began, gone, ticked, first_free, lives, at_slot, live_at, in_session, finishes, finishes_by, leaves, turn}
 use Rattle.tx_engine.specs.Plays.{Leads}
 use Rattle.tx_engine.specs.Slots.{ActsIn, SlotContent, slot_of, Held, texts, name_at, engine_with, engine_state, AllSeated, Acts, Serves, Stays, Goes, Did, Turned, TurnedBy}
-use Rattle.tx_engine.proofs.Keeping.{set_here, seated_at, at_place_of, acted, served, rested, known_ticks}
-use Rattle.tx_engine.proofs.Turning.{goes_at, asked_leads}
-use Rattle.tx_engine.proofs.Doing.{SessionTurn}
+use Rattle.tx_engine.proofs.SlotCounts.{set_here, seated_at, at_place_of, acted, served, rested, known_ticks}
+use Rattle.tx_engine.proofs.Turns.{goes_at, asked_leads}
+use Rattle.tx_engine.proofs.SessionTurns.{SessionTurn}
 
 -- a name in the map and in what contracts see of it
 named_in : (entries : List (String Global × ℕ)) (q : List ℕ)

@@ -28,8 +28,8 @@ use Rattle.tx_ops.specs.Edits.{is_refused, later_of}
 use Rattle.tx_engine.specs.Semantics.{SlotState, session, EngineState, goes, stops, at_network, seat_at, with_session, learnt, learns, resolves_by, resolves, collected_as, live_at, in_session, turn}
 use Rattle.tx_engine.specs.Plays.{Leads}
 use Rattle.tx_engine.specs.Slots.{SlotContent, slot_of, Held, name_at, engine_with, engine_state, AllSeated, Serves, Goes, SessionGoes, Learnt, Resolves, Turned}
-use Rattle.tx_engine.proofs.Keeping.{set_here, at_place_of, found, served}
-use Rattle.tx_engine.proofs.Turning.{runs_lead}
+use Rattle.tx_engine.proofs.SlotCounts.{set_here, at_place_of, found, served}
+use Rattle.tx_engine.proofs.Turns.{runs_lead}
 use Rattle.tx_engine.proofs.Engines.{put, back, is_live, step_stops}
 
 module _ (bounds : List Key) (now : ℕ) where

@@ -1,5 +1,5 @@
 -- What an engine holds, what acts make of it, and what is counted.
-use Rattle.std.specs.Prelude.{◌≡◌, ◌≤◌, ◌<◌, ◌⊎◌, ℕ, suc, ◌+◌, Bool, true, List, [], ◌∷◌, ◌++◌, map, length, slice_get, slice_set, Option, Some, None, Result, Ok, Err, Contains, String, string_bytes, bytes_eq}
+use Rattle.std.specs.Prelude.{◌≡◌, ◌≤◌, ◌⊎◌, ℕ, suc, ◌+◌, Bool, true, List, [], ◌∷◌, ◌++◌, map, length, slice_get, slice_set, Option, Some, None, Result, Ok, Err, Contains, String, string_bytes, bytes_eq}
 use Rattle.std.specs.BTreeMap.{BTreeMap}
 use Rattle.std.specs.Global.{Global}
 use Rattle.std.specs.List.{sum_by}
@@ -174,7 +174,8 @@ Sent bounds turn reply old new from to = Acts old.seat new.seat from to
 abbrev pub Stays : NetworkParts → NetworkParts → Type 0
 Stays from to = (delivery : Option (Delivery Text)) × (to ≡ record from { delivery = delivery })
 
--- a step of a session: it goes on, or it is not allowed and changes nothing
+-- a step of a session: it goes on; or it is not allowed, and nothing changes but what becomes of
+-- the next requests, which each step that sends says anew
 abbrev pub Did : List Key → (List Bool → EngineState → ℕ → SessionState → Transition) → Result ScriptReply Cause
     → Seated → Seated → NetworkParts → NetworkParts → Type 0
 Did bounds turn (Ok reply) old new from to = Sent bounds turn reply old new from to

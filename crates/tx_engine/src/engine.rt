@@ -3,7 +3,7 @@
 ghost use Rattle.std.specs.Prelude.{◌≡◌, ◌+◌, length, [], Some, None, option_map};
 ghost use Rattle.tx_engine.specs.Slots.{Held, engine_state, Goes, AllSeated, Settled, Turned, TurnedBy};
 ghost use Rattle.tx_engine.specs.Stages.{stage_at};
-ghost use Rattle.tx_engine.specs.Semantics.{edits, in_session, live_at, sends};
+ghost use Rattle.tx_engine.specs.Semantics.{edits, in_session, live_at};
 ghost use Rattle.tx_trace.specs.Traces.{Noted, Traces};
 ghost use Rattle.tx_steps.specs.Steps.{acted, asked, called, delivered};
 ghost use Rattle.tx_steps.specs.declared.op.Op.TheVariants as ops;

@@ -5,13 +5,13 @@
 
 mod acts;
 mod engine;
-mod opening;
+mod new_engine;
 mod operations;
 mod resolver;
 mod slots;
 mod stage;
 
 pub use engine::Engine;
-pub use opening::engine_of;
+pub use new_engine::engine_of;
 pub use slots::SessionSlot;
 pub use stage::SessionStage;

@@ -84,6 +84,7 @@ pub(crate) fn enter(
 
 /// The live session of a name, where it is one, leaves its slot, which is lent until `swap_slot`
 /// gives it back.
+#[inline(always)]
 pub(crate) fn lend<J: JournalId>(
     names: &BTreeMap<String, usize>,
     slots: &mut Vec<SessionSlot<Seat<J>, Session<J>>>,

@@ -2,7 +2,7 @@
 ghost use Rattle.std.specs.Prelude.{◌≡◌, ◌↔◌, true};
 ghost use Rattle.tx_transaction.specs.Sessions.{can_draw};
 ghost use Rattle.tx_engine.specs.declared.stage.SessionStage.TheVariants as stages;
-ghost use Rattle.tx_engine.specs.Stages.{undecided_stage, stage_of};
+ghost use Rattle.tx_engine.specs.Stages.{stage_of};
 
 use tx_client::Phase;
 use tx_transaction::Transaction;
@@ -17,7 +17,8 @@ pub enum SessionStage {
     Empty,
     /// A key that it declared has no accepted lock.
     Locking,
-    /// Each key has one, none of them in two phases.
+    /// Each key has one, none of them in two phases. An async transaction whose keys all have one
+    /// is committed as its session learns of the last, so none is met so far and undecided.
     Promised,
     /// Each key has one, some of them in two phases: a commit timestamp may be drawn.
     Locked,

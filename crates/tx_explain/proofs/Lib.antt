@@ -1,2 +1,2 @@
 -- What was written is of a play of the script with lines put in.
-pub mod Explaining
+pub mod Explanations

@@ -20,9 +20,9 @@ use Rattle.tx_cells.specs.Drops.{GoneApart, ValuesGo}
 use Rattle.tx_flat.specs.Sieves.{Outdated}
 use Rattle.tx_cells.proofs.Facts.{dated}
 use Rattle.tx_cells.proofs.Maps.{same_maps}
-use Rattle.tx_cells.proofs.Showing.{stands_commit}
+use Rattle.tx_cells.proofs.RecordCells.{stands_commit}
 use Rattle.tx_cells.proofs.RecordKinds.{kind_puts, kind_seen, seen_there}
-use Rattle.tx_cells.proofs.Dropping.{Left, whole_left, collected_left, cells_left, stays_of}
+use Rattle.tx_cells.proofs.Drops.{Left, whole_left, collected_left, cells_left, stays_of}
 
 -- where not all above is free of puts and deletes, one stands there
 some_above : (write : Writes) (q n : ℕ) → none_above write q n ≡ false

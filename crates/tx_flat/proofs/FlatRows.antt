@@ -19,7 +19,7 @@ use Rattle.tx_cells.specs.Heads.{lock_head}
 use Rattle.tx_flat.specs.Flats.{flat_content, lock_rows_in}
 use Rattle.tx_flat.specs.declared.FlatCells.{FlatCells}
 use Rattle.tx_cells.proofs.Maps.{key_is}
-use Rattle.tx_cells.proofs.Showing.{lock_heads}
+use Rattle.tx_cells.proofs.RecordCells.{lock_heads}
 
 abbrev Entries : Type 0
 Entries = List (Key × LockRec)

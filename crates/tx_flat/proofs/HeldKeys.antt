@@ -22,8 +22,8 @@ use Rattle.tx_flat.specs.Flats.{flat_content, put_key, in_order, fronts_of, held
 use Rattle.tx_flat.specs.NextKeys.{IsHeld, FirstOf}
 use Rattle.tx_spelling.specs.Spelt.{version_cmp, exact_versions}
 use Rattle.tx_cells.proofs.CellsAfter.{cells_same}
-use Rattle.tx_flat.proofs.Retaining.{tied}
-use Rattle.tx_flat.proofs.Sieving.{find_first}
+use Rattle.tx_flat.proofs.KeptEntries.{tied}
+use Rattle.tx_flat.proofs.Sieves.{find_first}
 
 -- ---- keys in order
 

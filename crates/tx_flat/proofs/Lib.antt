@@ -10,11 +10,11 @@ mod Nearest
 -- key.
 mod Above
 -- A walk from the start of a value up its key's records finds whether the value is outdated.
-mod Outdating
+mod OutdatedValues
 -- A pass over the entries of a map of versions tells which records collection keeps.
-mod Sieving
+mod Sieves
 -- What is left of a map of versions where entries were kept or dropped one by one.
-mod Retaining
+mod KeptEntries
 -- How many records a pass over the entries of a map of versions has dropped.
 mod SieveCounts
 -- What is left of a key of flat maps where its values went first and then its records.
@@ -25,7 +25,7 @@ mod HeldKeys
 -- key.
 mod Positions
 -- What a walk over flat maps sees of the key that it passes, and where it stands then.
-mod Passing
+mod PassedKeys
 -- No write record is above the ceiling of its key, whatever changes.
 mod FlatBounds
 -- What changes of the map of numbers make of the numbers of keys.

@@ -33,8 +33,8 @@ use Rattle.tx_flat.specs.Positions.{Locks, WriteEntries, coming, locks_where, wr
 use Rattle.tx_spelling.specs.Spelt.{version_cmp, exact_versions}
 use Rattle.tx_flat.proofs.HeldKeys.{In, lock_in, in_lock, write_in, in_write}
 use Rattle.tx_flat.proofs.Above.{less_cases, less_newer}
-use Rattle.tx_flat.proofs.Retaining.{tied}
-use Rattle.tx_flat.proofs.Sieving.{find, find_first, left_all, none_between}
+use Rattle.tx_flat.proofs.KeptEntries.{tied}
+use Rattle.tx_flat.proofs.Sieves.{find, find_first, left_all, none_between}
 
 -- ---- keys that rise, perhaps with the same key in a row
 

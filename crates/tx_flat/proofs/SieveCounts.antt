@@ -18,8 +18,8 @@ use Rattle.tx_plan.proofs.LockRows.{contains_first, contains_next, contains_case
 use Rattle.tx_cells.specs.Contents.{write_of}
 use Rattle.tx_flat.specs.Sieves.{writes_of}
 use Rattle.tx_spelling.specs.Spelt.{version_cmp, exact_versions}
-use Rattle.tx_flat.proofs.Retaining.{tied}
-use Rattle.tx_flat.proofs.Sieving.{Version, Entries, Place, AreLeft, find, find_first, find_before, first_is, on, keeps_at}
+use Rattle.tx_flat.proofs.KeptEntries.{tied}
+use Rattle.tx_flat.proofs.Sieves.{Version, Entries, Place, AreLeft, find, find_first, find_before, first_is, on, keeps_at}
 
 module _ (L : Key → Option Lock) (W : Version → Option WriteRec) (V : List ℕ → ℕ → Option Value) (safe : ℕ) where
   abbrev pub cells : Key → Cells

@@ -9,7 +9,7 @@ use Rattle.tx_engine.specs.Semantics.{opening}
 use Rattle.tx_evidence.specs.Lines.{bounds_of}
 use Rattle.tx_script.specs.Play.{ending}
 use Rattle.tx_script.specs.Players.{PlayerState, HasPlayed, IsPlayer, EndWellWith, EndsWell}
-use Rattle.tx_script.proofs.AllTelling.{is_play}
+use Rattle.tx_script.proofs.PlayReplies.{is_play}
 use Rattle.tx_generate.specs.Scripts.{BeginsLine, IsGrown, IsBegun}
 
 -- a line and its newline come behind a text

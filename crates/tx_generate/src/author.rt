@@ -1,5 +1,5 @@
 //! Who thinks of the steps of a script, and learns the replies to them.
-ghost use Rattle.std.specs.Prelude.{◌<◌, length};
+ghost use Rattle.std.specs.Prelude.{◌<◌};
 
 use crate::dice::Dice;
 use crate::session::{LiveSession, Stage};

@@ -1,5 +1,5 @@
 //! Chance, from a seed.
-ghost use Rattle.std.specs.Prelude.{◌<◌, ℕ, length};
+ghost use Rattle.std.specs.Prelude.{◌<◌, length};
 
 use rand_core::utils::NextWord;
 use rand_pcg::Pcg32;

@@ -1,5 +1,5 @@
 //! A script by its settings: it is made whole, and then written.
-ghost use Rattle.std.specs.Prelude.{◌≡◌, ◌++◌, ℕ, List, OnOk, OnErr, IfOk};
+ghost use Rattle.std.specs.Prelude.{ℕ, List, OnOk, OnErr, IfOk};
 ghost use Rattle.std.specs.Io.KnownBytes.{Appends};
 ghost use Rattle.tx_text.specs.Output.{AppendsPart};
 ghost use Rattle.tx_script.specs.Players.{EndsWell};

@@ -4,13 +4,13 @@
 #![tactic(auto)]
 
 mod faulty;
-mod meeting;
-mod opening;
 mod refusals;
+mod rendezvous;
+mod store;
 mod watched;
 
 pub use faulty::{Delivery, Faulty};
-pub use meeting::Meeting;
-pub use opening::{one_bound, open};
 pub use refusals::Refusing;
+pub use rendezvous::Rendezvous;
+pub use store::{one_bound, open};
 pub use watched::{Call, Watch, Watched};

@@ -1,7 +1,6 @@
 //! Why each step of a cycle is one.
-ghost use Rattle.std.specs.Prelude.{◌≡◌, ◌↔◌, ℕ, ◌+◌, ◌-◌, ◌*◌, ◌^◌, ◌<◌, ◌≤◌, List, length, Contains, IfOk, IfSome, IfNone, IsTrue, slice_index};
-ghost use Rattle.tx_order.specs.declared.graph.Edge.{Edge};
-ghost use Rattle.tx_history.specs.Records.{AreHeads, IsRecorded, history_of, writers_of};
+ghost use Rattle.std.specs.Prelude.{◌≡◌, ◌↔◌, ◌+◌, ◌-◌, ◌<◌, length, IfOk, IfSome, IfNone, IsTrue};
+ghost use Rattle.tx_history.specs.Records.{IsRecorded, history_of, writers_of};
 ghost use Rattle.tx_history.specs.Graph.{IsEdge, IsCycleOf, IsWw, IsWr, IsRw, IsAfter, before_edge, after_edge};
 ghost use Rattle.tx_history.specs.Dependencies.{IsDependency, AreDependencies, IsWwIn, IsNoWwIn, IsSeen, IsNext, next_of};
 

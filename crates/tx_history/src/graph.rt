@@ -1,5 +1,5 @@
 //! The edges of the graph of a recorded history.
-ghost use Rattle.std.specs.Prelude.{◌≡◌, ◌⊎◌, ℕ, ◌+◌, ◌-◌, ◌*◌, ◌^◌, ◌<◌, ◌≤◌, length, All, OnOk, IfOk, slice_index};
+ghost use Rattle.std.specs.Prelude.{◌≡◌, ◌+◌, ◌-◌, ◌*◌, ◌<◌, ◌≤◌, length, OnOk, IfOk};
 ghost use Rattle.tx_order.specs.declared.graph.Edge.{Edge};
 ghost use Rattle.tx_history.specs.Graph.{IsGraph};
 ghost use Rattle.tx_history.specs.Records.{IsRecorded, history_of, writers_of};

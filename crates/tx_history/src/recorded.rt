@@ -1,5 +1,5 @@
 //! A recorded history.
-ghost use Rattle.std.specs.Prelude.{◌≡◌, ◌↔◌, ℕ, ◌<◌, ◌≤◌, length, All, IsTrue};
+ghost use Rattle.std.specs.Prelude.{◌≡◌, ◌↔◌, ◌<◌, length, All, IsTrue};
 ghost use Rattle.tx_history.specs.Records.{IsRecorded, AreHeads, IsReadIn, IsAmong, writers_of};
 
 /// The transaction read this version of the key: 0 is the key before its first version.

@@ -18,7 +18,7 @@ use Rattle.tx_import.specs.declared.draft.Tables.{Tables}
 use Rattle.tx_import.specs.declared.draft.Draft.{Draft}
 use Rattle.tx_import.specs.Numbers.{IsActSaid, IsOpSaid, IsTransactionSaid}
 use Rattle.tx_import.specs.Drafts.{GrowsDraft, AddsTransaction, IsActIn, IsOpIn, FitsDraft, IsDraftOf}
-use Rattle.tx_import.proofs.Growing.{length_grows, zip_to, zip_push, transaction_grows}
+use Rattle.tx_import.proofs.Extensions.{length_grows, zip_to, zip_push, transaction_grows}
 
 -- ---- what is named is there
 

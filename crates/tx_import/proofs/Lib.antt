@@ -1,10 +1,10 @@
 -- What was said of a part of a recording holds as more is added behind it.
-pub mod Growing
+pub mod Extensions
 -- How much operations weigh.
 pub mod Weights
 -- The recording of a draft.
 pub mod Drafted
 -- The lines of a history that were read, and the draft of what they say.
-pub mod Reading
+pub mod ReadLines
 -- Values with too few or too many members.
 pub mod Arity

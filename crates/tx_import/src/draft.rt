@@ -1,5 +1,5 @@
 //! A recording as its lines come.
-ghost use Rattle.std.specs.Prelude.{◌≡◌, ◌≤◌, ◌<◌, ◌+◌, ◌*◌, ◌^◌, ◌++◌, ◌∷◌, ◌↔◌, [], ℕ, List, All, length, slice_range, IfOk, OnOk, IsTrue};
+ghost use Rattle.std.specs.Prelude.{◌≡◌, ◌≤◌, ◌<◌, ◌+◌, ◌^◌, ◌++◌, ◌∷◌, ◌↔◌, [], ℕ, List, All, length, slice_range, IfOk, OnOk, IsTrue};
 ghost use Rattle.tx_import.specs.Numbers.{Grows, AreValuesOf, IsActSaid, IsProcessSaid};
 ghost use Rattle.tx_import.specs.Drafts.{width, weight, held, GrowsDraft, FitsOps, FitsDraft, AddsOps, AddsTransaction, IsDraftOf};
 

@@ -1,9 +1,9 @@
 //! What a line's JSON object says, member by member.
-ghost use Rattle.std.specs.Prelude.{◌≡◌, Some, None, MatchResult, option_and_then};
+ghost use Rattle.std.specs.Prelude.{◌≡◌, Some, None, MatchResult};
 ghost use Rattle.serde_json.specs.View.{view};
 ghost use Rattle.serde_json.specs.Find.{get};
-ghost use Rattle.tx_check.specs.MachineSteps.{number_of, list_of};
-ghost use Rattle.tx_import.specs.Said.{name_of, op_of, optional, outcome_of, outcome_said, ops_said, transaction_of};
+ghost use Rattle.tx_check.specs.MachineSteps.{number_of};
+ghost use Rattle.tx_import.specs.Said.{name_of, optional, outcome_said, ops_said, transaction_of};
 
 use crate::line::{Unread, list, name, number, ops, text};
 use crate::name::Name;

@@ -1,5 +1,5 @@
 //! An answer with a copy of the lock that it names.
-ghost use Rattle.std.specs.Prelude.{◌≡◌, None, IfOk, IfErr};
+ghost use Rattle.std.specs.Prelude.{◌≡◌, Some, None, IfOk, IfErr};
 ghost use Rattle.tx_types.specs.declared.fault.Fault.TheVariants as fault;
 ghost use Rattle.tx_journal.specs.Replies.{lock_in};
 
@@ -28,13 +28,23 @@ impl Model for AnswerWithLock {
     ghost invariant = { λ a. a.lock ≡ lock_in a.answer };
 }
 
-// A copy of the lock that an answer names as in the way.
+// A copy of a lock.
+#[inline(never)]
+fn copied(info: &LockInfo) -> Result<Option<LockInfo>, Fault>
+    ensures ok { IfOk result (λ lock. lock ≡ Some info.now) }
+    ensures err { IfErr result (λ e. e ≡ fault.OutOfMemory) }
+{
+    Ok(Some(info.clone()?))
+}
+
+// A copy of the lock that an answer names as in the way. Mostly it names none.
+#[inline(always)]
 fn copied_lock(answer: &Answer) -> Result<Option<LockInfo>, Fault>
     ensures ok { IfOk result (λ lock. lock ≡ lock_in answer.now) }
     ensures err { IfErr result (λ e. e ≡ fault.OutOfMemory) }
 {
     match answer {
-        Answer::KeyIsLocked(info) => Ok(Some(info.clone()?)),
+        Answer::KeyIsLocked(info) => copied(info),
         _ => Ok(None),
     }
 }
@@ -42,6 +52,7 @@ fn copied_lock(answer: &Answer) -> Result<Option<LockInfo>, Fault>
 impl AnswerWithLock {
     /// An answer, with a copy of the lock that it names as in the way. `OutOfMemory` where there is
     /// no room for the copy.
+    #[inline(always)]
     pub fn new(answer: Answer) -> Result<AnswerWithLock, Fault>
         ensures ok { IfOk result (λ a. a ≡ answer) }
         ensures err { IfErr result (λ e. e ≡ fault.OutOfMemory) }

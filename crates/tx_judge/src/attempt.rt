@@ -1,5 +1,5 @@
 //! What the versions in one order are for the recording.
-ghost use Rattle.std.specs.Prelude.{◌≡◌, ℕ, IfOk, IfSome, slice_index};
+ghost use Rattle.std.specs.Prelude.{ℕ, IfOk, IfSome, slice_index};
 ghost use Rattle.tx_recording.specs.Recordings.{IsRecording};
 ghost use Rattle.tx_views.specs.Views.{AreViews};
 ghost use Rattle.tx_views.specs.Owners.{AreOwners};

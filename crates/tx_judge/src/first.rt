@@ -1,5 +1,4 @@
 //! Which puts come first of those that nobody knows the place of.
-ghost use Rattle.std.specs.Prelude.{◌≡◌};
 
 use crate::apart::{add_apart, puts_by_txn};
 use crate::greedy::ranks_of;

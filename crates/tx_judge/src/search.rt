@@ -1,5 +1,5 @@
 //! The search for an order of the puts of which nobody knows it.
-ghost use Rattle.std.specs.Prelude.{◌≡◌, IfOk, IfSome};
+ghost use Rattle.std.specs.Prelude.{IfOk, IfSome};
 ghost use Rattle.tx_recording.specs.Recordings.{IsRecording};
 ghost use Rattle.tx_views.specs.Views.{AreViews};
 ghost use Rattle.tx_views.specs.Owners.{AreOwners};

@@ -1,5 +1,5 @@
 //! Keys of which two puts may come in two orders.
-ghost use Rattle.std.specs.Prelude.{◌≡◌, OnOk, IfOk, IsTrue};
+ghost use Rattle.std.specs.Prelude.{OnOk, IfOk, IsTrue};
 ghost use Rattle.tx_recording.specs.Recordings.{IsRecording};
 ghost use Rattle.tx_verdict.specs.Undecided.{AreUndecided, IsUndecided};
 

@@ -1,5 +1,5 @@
 //! Whether a recording is snapshot isolation.
-ghost use Rattle.std.specs.Prelude.{◌≡◌, IfOk, IfSome, IsTrue};
+ghost use Rattle.std.specs.Prelude.{IfOk, IfSome, IsTrue};
 ghost use Rattle.tx_recording.specs.Recordings.{IsRecording};
 ghost use Rattle.tx_views.specs.Views.{AreViews, IsViewed};
 ghost use Rattle.tx_views.specs.Owners.{AreOwners, IsOwned};

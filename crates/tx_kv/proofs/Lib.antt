@@ -1,5 +1,5 @@
 -- A draw after a look is a draw.
-mod Drawing
-mod Rising
-mod Telling
-mod Viewing
+mod Draws
+mod KeyOrder
+mod UpdateResults
+mod Views

@@ -4,16 +4,16 @@ use Rattle.tx_types.specs.declared.key.Key.{Key}
 use Rattle.tx_core.specs.declared.event.Outcome.{Outcome}
 use Rattle.tx_core.specs.declared.event.Outcome.TheVariants.{Committed, ReadOnly}
 use Rattle.tx_core.specs.declared.event.Event.TheVariants as event
-use Rattle.tx_journal.specs.Known.{Known, known}
+use Rattle.tx_journal.specs.Known.{known}
 use Rattle.tx_transaction.specs.declared.state.Terms.{Terms}
 use Rattle.tx_transaction.specs.Buffers.{Entries}
 use Rattle.tx_client.specs.Calls.{Records}
 use Rattle.tx_simple.specs.declared.failure.Failure.{Failure}
 use Rattle.tx_simple.specs.declared.failure.Failure.TheVariants as failure
-use Rattle.tx_simple.specs.declared.ending.Seats.{Seats}
-use Rattle.tx_simple.specs.declared.ending.Ended.{Ended}
-use Rattle.tx_simple.specs.declared.ending.Unended.{Unended}
-use Rattle.tx_simple.specs.declared.ending.Unended.TheVariants as unended
+use Rattle.tx_simple.specs.declared.ended.Seats.{Seats}
+use Rattle.tx_simple.specs.declared.ended.Ended.{Ended}
+use Rattle.tx_simple.specs.declared.ended.Unended.{Unended}
+use Rattle.tx_simple.specs.declared.ended.Unended.TheVariants as unended
 use Rattle.tx_simple.specs.Updates.{IsWithoutEffect}
 use Rattle.tx_simple.specs.Endings.{EndsOver, IsUnended}
 use Rattle.tx_kv.specs.declared.updated.Updated.{Updated}

@@ -1,4 +1,4 @@
 pub mod Bounds
 pub mod Clients
-pub mod Telling
+pub mod UpdateResults
 pub mod Views

@@ -5,7 +5,7 @@ ghost use Rattle.tx_flat.specs.Flats.{flat_content};
 
 use crate::client::Client;
 use crate::live::Live;
-use crate::opening::{journal, store};
+use crate::store::{journal, store};
 use crate::unopened::Unopened;
 use std::alloc::Global;
 use std::marker::Brand;

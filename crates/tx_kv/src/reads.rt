@@ -1,10 +1,10 @@
 //! Reads of a client at a timestamp.
-ghost use Rattle.std.specs.Prelude.{◌≡◌, IfOk, Some};
+ghost use Rattle.std.specs.Prelude.{◌≡◌, IfOk, IfErr, Some};
 ghost use Rattle.tx_machine.specs.Machine.{Sees, table_of};
 ghost use Rattle.tx_core.specs.Shadow.{shadow};
 ghost use Rattle.tx_journal.specs.Known.{HasDrawn};
 ghost use Rattle.tx_reader.specs.Readers.{OnlySees};
-ghost use Rattle.tx_kv.specs.Views.{SeesRange};
+ghost use Rattle.tx_kv.specs.Views.{IsViewStop, SeesRange};
 
 use crate::client::Client;
 use crate::found::found_in;
@@ -59,6 +59,7 @@ impl<'a, J: JournalId, R: Wait> Client<'a, J, R> {
     pub(crate) fn get_at(&mut self, at: Ts, key: &Key) -> Result<Option<Value>, Stop>
         ensures finds { IfOk result
             (λ found. Sees (table_of (shadow self.new.seats.resolves.events)).row key.now at found) }
+        ensures err { IfErr result (IsViewStop at) }
         ensures begins { self.new.seats.begins ≡ self.old.seats.begins }
         ensures resolves { OnlySees self.old.seats.resolves self.new.seats.resolves }
         ensures terms { (self.new.terms ≡ self.old.terms) × (self.new.again ≡ self.old.again) }
@@ -78,6 +79,7 @@ impl<'a, J: JournalId, R: Wait> Client<'a, J, R> {
     pub(crate) fn rows_at(&mut self, at: Ts, range: &KeyRange) -> Result<KeyValues, Stop>
         ensures finds { IfOk result
             (λ rows. SeesRange self.new.seats.resolves.events at (Some range.now.from) range.now.to rows) }
+        ensures err { IfErr result (IsViewStop at) }
         ensures begins { self.new.seats.begins ≡ self.old.seats.begins }
         ensures resolves { OnlySees self.old.seats.resolves self.new.seats.resolves }
         ensures terms { (self.new.terms ≡ self.old.terms) × (self.new.again ≡ self.old.again) }

@@ -1,7 +1,7 @@
 //! What is told of an update.
 ghost use Rattle.std.specs.Prelude.{◌≡◌, IfOk, IfErr};
 ghost use Rattle.tx_kv.specs.Clients.{TellsEnd, TellsNoEnd};
-ghost use Rattle.tx_kv.specs.Telling.{told_stop, told_commit, told_reads, told_end};
+ghost use Rattle.tx_kv.specs.UpdateResults.{told_stop, told_commit, told_reads, told_end};
 
 use tx_core::Outcome;
 use tx_journal::JournalId;

@@ -1,10 +1,10 @@
 //! Reads of a client alone, at one timestamp.
-ghost use Rattle.std.specs.Prelude.{◌≡◌, IfOk};
+ghost use Rattle.std.specs.Prelude.{◌≡◌, IfOk, IfErr};
 ghost use Rattle.tx_machine.specs.Machine.{Sees, table_of};
 ghost use Rattle.tx_core.specs.Shadow.{shadow};
 ghost use Rattle.tx_journal.specs.Known.{HasDrawn};
 ghost use Rattle.tx_reader.specs.Readers.{OnlySees};
-ghost use Rattle.tx_kv.specs.Views.{SeesRange};
+ghost use Rattle.tx_kv.specs.Views.{IsViewStop, SeesRange};
 
 use crate::client::Client;
 use std::alloc::Global;
@@ -85,11 +85,16 @@ impl<'v, 'a, J: JournalId, R: Wait> View<'v, 'a, J, R> {
         self.client.alloc()
     }
 
-    /// The value of a key: what the one-step machine sees there. A lock in the way is resolved;
-    /// `Waits` where that cannot be, since its transaction lives.
+    /// The value of a key: what the one-step machine sees there. A lock in the way is resolved. It
+    /// stops by what a read of a transaction does: `Waits` where the transaction of a lock lives or
+    /// cannot be asked, `BelowSafePoint` where its timestamp lies below the safe point, `Lost`
+    /// where no reply came, `Refused` for want of memory; and by `Refused(FutureTimestamp)` where
+    /// its timestamp lies above the last number that the region knows to be drawn. It stops by
+    /// nothing else: never by a conflict.
     pub fn get(&mut self, key: &Key) -> Result<Option<Value>, Stop>
         ensures finds { IfOk result (λ found. Sees (table_of (shadow self.new.client.now.seats.resolves.events)).row
             key.now self.old.at found) }
+        ensures err { IfErr result (IsViewStop self.old.at) }
         ensures begins { self.new.client.now.seats.begins ≡ self.old.client.now.seats.begins }
         ensures resolves { OnlySees self.old.client.now.seats.resolves self.new.client.now.seats.resolves }
         ensures same { (self.new.at ≡ self.old.at) × (self.new.client.ghost_name ≡ self.old.client.ghost_name) }
@@ -98,10 +103,11 @@ impl<'v, 'a, J: JournalId, R: Wait> View<'v, 'a, J, R> {
     }
 
     /// The rows of a range, of any number: from a key, or from the least, and up to but not
-    /// including another, or to the greatest. It stops as `get` does.
+    /// including another, or to the greatest. It stops only by what `get` does.
     pub fn range(&mut self, from: Option<Key>, to: Option<Key>) -> Result<KeyValues, Stop>
         ensures finds { IfOk result
             (λ rows. SeesRange self.new.client.now.seats.resolves.events self.old.at from to rows) }
+        ensures err { IfErr result (IsViewStop self.old.at) }
         ensures begins { self.new.client.now.seats.begins ≡ self.old.client.now.seats.begins }
         ensures resolves { OnlySees self.old.client.now.seats.resolves self.new.client.now.seats.resolves }
         ensures same { (self.new.at ≡ self.old.at) × (self.new.client.ghost_name ≡ self.old.client.ghost_name) }

@@ -14,7 +14,7 @@ use Rattle.tx_core.specs.Histories.{History, Begins}
 use Rattle.tx_core.specs.Shadow.{shadow}
 use Rattle.tx_core.specs.Worlds.{IsWorldRun}
 use Rattle.tx_core.proofs.seats.Beginnings.{begins_all, begins_more, extends_begins}
-use Rattle.tx_core.proofs.seats.Staying.{among_on}
+use Rattle.tx_core.proofs.seats.Stays.{among_on}
 use Rattle.tx_journal.specs.Known.{Known}
 use Rattle.tx_journal.specs.Replies.{Asked, Given}
 use Rattle.tx_transaction.specs.declared.state.Miss.{Miss}
@@ -25,10 +25,10 @@ use Rattle.tx_journal.specs.Senders.{Reached, IsSender}
 use Rattle.tx_client.specs.Learns.{response_by, response_of, Learns}
 use Rattle.tx_client.specs.Walks.{Walk, asks, grows, ends, then_walk, Sends, look_part, part_by, part_walk, enough, scan_after, scan_from, scan_walk, lesser, greater}
 use Rattle.tx_client.specs.Facts.{WasAnswered, RespondsSo}
-use Rattle.tx_client.proofs.Calling.{came_told}
+use Rattle.tx_client.proofs.Calls.{came_told}
 use Rattle.tx_laws.specs.Scans.{scan_at, SeesWhole}
-use Rattle.tx_laws.proofs.Standing.{rows_seen}
-use Rattle.tx_laws.proofs.Joining.{Has, SoFar, none_yet, all_seen, passed_by, joined_more, joined_full}
+use Rattle.tx_laws.proofs.LaterReads.{rows_seen}
+use Rattle.tx_laws.proofs.RangeParts.{Has, SoFar, none_yet, all_seen, passed_by, joined_more, joined_full}
 
 -- ---- the greater and the lesser of two keys
 

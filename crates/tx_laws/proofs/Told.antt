@@ -24,7 +24,7 @@ use Rattle.tx_core.proofs.seats.Beginnings.{begins_all}
 use Rattle.tx_core.proofs.seats.StaysDecided.{decided_on}
 use Rattle.tx_laws.specs.Told.{IsTold, Says, FindsAtLeast}
 use Rattle.tx_laws.proofs.Newest.{finds}
-use Rattle.tx_laws.proofs.Standing.{answer_seen}
+use Rattle.tx_laws.proofs.LaterReads.{answer_seen}
 
 -- what was answered committed is decided so
 answered_decided : (bounds : List Key) (h : History) → IsWorldRun bounds h → (t c : ℕ)

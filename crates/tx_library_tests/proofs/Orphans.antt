@@ -9,7 +9,7 @@ use Rattle.tx_core.specs.Recording.{MayRecord}
 use Rattle.tx_core.specs.Worlds.{IsWorldRun}
 use Rattle.tx_core.proofs.seats.Beginnings.{begins_all, extends_begins}
 use Rattle.tx_core.proofs.seats.Recording.{undeclared_on, unanswered_on, may_declare}
-use Rattle.tx_core.proofs.seats.Staying.{began_on, drawer_on}
+use Rattle.tx_core.proofs.seats.Stays.{began_on, drawer_on}
 use Rattle.tx_journal.specs.Known.{HasRecorded, HasDrawn}
 use Rattle.tx_client.proofs.Events.{began_ok}
 use Rattle.tx_library_tests.specs.Orphan.{both_of}

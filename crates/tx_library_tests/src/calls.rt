@@ -57,7 +57,22 @@ pub enum Came {
     Answered(Result<Option<Answer>, Miss>),
 }
 
-fn put<J: JournalId>(
+/// Two keys of these bytes.
+pub fn keys_of(alloc: Global, first: &[u8], second: &[u8]) -> Option<(Key, Key)> {
+    let first = Key::new(alloc, first).ok()?;
+    let second = Key::new(alloc, second).ok()?;
+    Some((first, second))
+}
+
+/// A key and a value of these bytes.
+pub fn pair_of(alloc: Global, key: &[u8], value: &[u8]) -> Result<(Key, Value), Fault> {
+    let key = Key::new(alloc, key)?;
+    let value = Value::new(alloc, value)?;
+    Ok((key, value))
+}
+
+/// Enters a put of this value into the buffer.
+pub fn put<J: JournalId>(
     alloc: Global,
     session: &mut Session<J>,
     key: &[u8],
@@ -65,8 +80,7 @@ fn put<J: JournalId>(
 ) -> Result<(), Fault>
     requires { is_declared session.old.state ≡ false }
 {
-    let key = Key::new(alloc, key)?;
-    let value = Value::new(alloc, value)?;
+    let (key, value) = pair_of(alloc, key, value)?;
     session.put(key, value)
 }
 
@@ -78,8 +92,7 @@ fn insert<J: JournalId>(
 ) -> Result<(), Fault>
     requires { is_declared session.old.state ≡ false }
 {
-    let key = Key::new(alloc, key)?;
-    let value = Value::new(alloc, value)?;
+    let (key, value) = pair_of(alloc, key, value)?;
     session.insert(key, value)
 }
 
@@ -124,7 +137,8 @@ fn prepare<J: JournalId>(alloc: Global, session: &mut Session<J>, op: Op) -> Cam
     }
 }
 
-fn get<J: JournalId, S: Sender<Request<J>, Reply<J>>>(
+/// What the key of these bytes has.
+pub fn get<J: JournalId, S: Sender<Request<J>, Reply<J>>>(
     alloc: Global,
     session: &mut Session<J>,
     key: &[u8],
@@ -150,11 +164,7 @@ fn scan<J: JournalId, S: Sender<Request<J>, Reply<J>>>(
 ) -> Result<Answer, Miss>
     requires way { IsSender J.bounds S.fits S.sends S.keys_between }
 {
-    let Ok(from) = Key::new(alloc, from) else {
-        return Err(Miss::Fault);
-    };
-    let Ok(to) = Key::new(alloc, to) else {
-        drop(from);
+    let Some((from, to)) = keys_of(alloc, from, to) else {
         return Err(Miss::Fault);
     };
     let came = session.scan(alloc, &from, &to, limit, sender);

@@ -4,15 +4,16 @@
 ghost use Rattle.std.specs.Prelude.{◌≡◌, IfSome, length, vec_len};
 ghost use Rattle.tx_types.specs.Keys.{AreRising};
 
-use crate::calls::{Op, perform};
+use crate::calls::{Op, keys_of, perform};
 use crate::orphan::leave_orphan;
 use crate::others;
+use crate::stores::pair;
 use crate::words::{OK, ORDER, Short, by_call, by_collection, by_outcome};
 use std::alloc::Global;
 use std::marker::Brand;
 use std::mem::replace;
 use std::sync::Wait;
-use tx_cells::Plain;
+use tx_cells::{Families, Fresh, Plain};
 use tx_client::Session;
 use tx_harness::{Delivery, Faulty, open};
 use tx_journal::{JournalId, Opened, Seat};
@@ -51,16 +52,16 @@ struct Tally {
 /// How requests reach the regions, the seats that are free, the seat of the resolver and of the
 /// collector, and the sessions.
 #[derive(Drop)]
-struct Harness<'a, J: JournalId, R: Wait> {
+struct Harness<'a, J: JournalId, F: Families + Drop, R: Wait> {
     alloc: Global,
-    sender: Faulty<'a, J, NestedCells, R>,
+    sender: Faulty<'a, J, F, R>,
     seats: Vec<Seat<J>>,
     resolver: Seat<J>,
     a: Option<Session<J>>,
     b: Option<Session<J>>,
 }
 
-impl<'a, J: JournalId, R: Wait> Harness<'a, J, R> {
+impl<'a, J: JournalId, F: Families + Drop, R: Wait> Harness<'a, J, F, R> {
     // A session is there from now on.
     fn keep(&mut self, who: Who, session: Option<Session<J>>) {
         match who {
@@ -222,14 +223,13 @@ fn most(op: Op) -> u32 {
 }
 
 // A harness over a store, with these seats.
-fn harness_over<'a, J: JournalId, R: Wait>(
+fn harness_over<'a, J: JournalId, F: Families + Drop, R: Wait>(
     rt: &'a R,
     alloc: Global,
-    store: &'a Store<J, NestedCells>,
+    store: &'a Store<J, F>,
     mut seats: Vec<Seat<J>>,
-) -> Option<Harness<'a, J, R>> {
-    let resolver = seats.pop()?;
-    let seat = seats.pop()?;
+) -> Option<Harness<'a, J, F, R>> {
+    let (resolver, seat) = pair(&mut seats)?;
     Some(Harness {
         alloc,
         sender: Faulty::new(Wire::new(rt, store), seat),
@@ -240,10 +240,10 @@ fn harness_over<'a, J: JournalId, R: Wait>(
     })
 }
 
-fn play_over<J: JournalId, R: Wait>(
+fn play_over<J: JournalId, F: Families + Drop, R: Wait>(
     rt: &R,
     alloc: Global,
-    store: &Store<J, NestedCells>,
+    store: &Store<J, F>,
     seats: Vec<Seat<J>>,
     steps: &[Step],
 ) -> Option<Tally> {
@@ -253,7 +253,7 @@ fn play_over<J: JournalId, R: Wait>(
     Some(played)
 }
 
-fn play<J: JournalId, R: Wait>(
+fn play<J: JournalId, F: Fresh, R: Wait>(
     rt: &R,
     alloc: Global,
     opened: Opened,
@@ -262,7 +262,7 @@ fn play<J: JournalId, R: Wait>(
     requires name { (opened.table ≡ J.table) × (opened.bounds ≡ J.bounds) × (opened.seats ≡ J.seats) }
     requires three { length J.bounds ≡ 2 }
 {
-    let (store, seats) = open::<J, NestedCells, Plain>(alloc, opened, &Plain, 3)?;
+    let (store, seats) = open::<J, F, Plain>(alloc, opened, &Plain, 3)?;
     let played = play_over(rt, alloc, &store, seats, steps);
     drop(store);
     played
@@ -272,8 +272,7 @@ fn play<J: JournalId, R: Wait>(
 fn bounds(alloc: Global) -> Option<Vec<Key>>
     ensures { IfSome result (λ keys. (vec_len keys ≡ 2) × AreRising keys.items) }
 {
-    let low = Key::new(alloc, b"4").ok()?;
-    let high = Key::new(alloc, b"7").ok()?;
+    let (low, high) = keys_of(alloc, b"4", b"7")?;
     if low >= high {
         return None;
     }
@@ -286,7 +285,7 @@ fn bounds(alloc: Global) -> Option<Vec<Key>>
 fn run<R: Wait>(rt: &R, alloc: Global, steps: &[Step]) -> Option<Tally> {
     let bounds = bounds(alloc)?;
     let opened = Opened::new(alloc, bounds, 6).ok()?;
-    play::<Brand, R>(rt, alloc, opened, steps)
+    play::<Brand, NestedCells, R>(rt, alloc, opened, steps)
 }
 
 /// How many steps came out as they say, up to the first that did not.

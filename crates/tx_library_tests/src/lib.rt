@@ -24,6 +24,8 @@ mod simple_tests;
 #[cfg(test)]
 mod store_tests;
 #[cfg(test)]
+mod stores;
+#[cfg(test)]
 mod table_tests;
 #[cfg(test)]
 mod words;

@@ -8,6 +8,7 @@ ghost use Rattle.tx_journal.specs.Senders.{IsSender};
 ghost use Rattle.tx_client.specs.Calls.{Records};
 ghost use Rattle.tx_library_tests.specs.Orphan.{both_of, second_of};
 
+use crate::calls::keys_of;
 use crate::words::{Short, by_response};
 use std::alloc::Global;
 use tx_client::ask;
@@ -109,7 +110,7 @@ pub fn leave_orphan<J: JournalId, S: Sender<Request<J>, Reply<J>>>(
 ) -> Short
     requires way { IsSender J.bounds S.fits S.sends S.keys_between }
 {
-    let (Ok(first), Ok(second)) = (Key::new(alloc, first), Key::new(alloc, second)) else {
+    let Some((first, second)) = keys_of(alloc, first, second) else {
         return ("E12", 0);
     };
     let short = orphan(alloc, seat, &first, &second, sender);

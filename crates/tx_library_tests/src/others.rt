@@ -4,22 +4,21 @@ ghost use Rattle.tx_journal.specs.Senders.{IsSender};
 use crate::words::{OK, Short, by_fault, by_status};
 use tx_client::{Decision, Met, Resolved, Session, Status};
 use tx_journal::{JournalId, Reply, Request, Seat, Sender};
-use tx_resolve::resolve as find;
+use tx_simple::resolve_met;
 use tx_types::{Fate, Ts};
 
-/// What became of the transaction whose lock a read at this timestamp met.
-pub fn found<J: JournalId, S: Sender<Request<J>, Reply<J>>>(
-    resolver: &mut Seat<J>,
-    met: Met<J>,
-    reader: Ts,
-    now: u64,
-    sender: &mut S,
-) -> Resolved<J>
-    requires way { IsSender J.bounds S.fits S.sends S.keys_between }
-{
-    let (info, told) = met.into_parts();
-    resolver.learn(told);
-    find(resolver, &info, reader, Ts::new(now), sender)
+/// The lock that a session met, where there is memory to tell of it.
+pub fn met_by<J: JournalId>(session: &mut Session<J>) -> Option<Met<J>> {
+    session.met().ok()?
+}
+
+// A session learns what became of a transaction.
+fn learnt<J: JournalId>(session: &mut Session<J>, resolved: Resolved<J>) -> Short {
+    let short = by_status(resolved.status());
+    match session.learn(resolved) {
+        Ok(()) => short,
+        Err(fault) => by_fault(fault),
+    }
 }
 
 /// The resolver finds, at this time, what became of the transaction whose lock a session met, and
@@ -32,15 +31,12 @@ pub fn resolve<J: JournalId, S: Sender<Request<J>, Reply<J>>>(
 ) -> Short
     requires way { IsSender J.bounds S.fits S.sends S.keys_between }
 {
-    let Ok(Some(met)) = session.met() else {
+    let Some(met) = met_by(session) else {
         return ("none", 0);
     };
-    let resolved = found(resolver, met, session.start(), now, sender);
-    let short = by_status(resolved.status());
-    match session.learn(resolved) {
-        Ok(()) => short,
-        Err(fault) => by_fault(fault),
-    }
+    let now = Ts::new(now);
+    let resolved = resolve_met(resolver, met, session.start(), now, sender);
+    learnt(session, resolved)
 }
 
 // That a transaction is decided so.

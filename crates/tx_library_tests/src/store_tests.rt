@@ -3,5 +3,5 @@ mod additions;
 mod chase;
 mod collections;
 mod gate;
-mod sessions;
+pub mod sessions;
 mod told;

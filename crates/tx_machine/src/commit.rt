@@ -1,5 +1,5 @@
 //! What forbids a commit, the versions that it lists, and the reads that its inserts leave.
-ghost use Rattle.std.specs.Prelude.{◌≡◌, ◌≢◌, ◌⊎◌, [], ◌∷◌, ℕ, ◌==◌, true, false, cond, Some, None, take, OnOk, OnErr, IfErr, IfSome, IfNone, Contains, ◌≤◌, ◌<◌};
+ghost use Rattle.std.specs.Prelude.{◌≡◌, ◌≢◌, ◌⊎◌, [], ◌∷◌, ℕ, ◌==◌, cond, Some, None, take, OnOk, OnErr, IfErr, IfSome, IfNone, Contains, ◌≤◌, ◌<◌};
 ghost use Rattle.std.specs.Prelude.{bytes_eq};
 ghost use Rattle.tx_types.specs.declared.key.Key.{Key};
 ghost use Rattle.tx_types.specs.declared.mutation.Change.{Change};

@@ -11,7 +11,7 @@ ghost use Rattle.tx_types.specs.declared.mutation.Mutation.{Mutation};
 ghost use Rattle.tx_machine.specs.Versions.{Listed, SeenIn, IsOrderly};
 ghost use Rattle.tx_machine.specs.Why.{LeftBy, IsSeen};
 ghost use Rattle.tx_machine.specs.declared.reason.SeenValue.TheVariants as SeenValue;
-ghost use Rattle.tx_types.specs.Keys.{IsVisible, IsInsert, put_by};
+ghost use Rattle.tx_types.specs.Keys.{IsInsert, put_by};
 ghost use Rattle.tx_types.specs.declared.value.Value.{Value};
 
 use std::collections::BTreeMap;

@@ -2,10 +2,10 @@
 //!
 //! It is asked of a step that was refused, and looks at what the step before left, as the step
 //! itself does. So it costs about as much as the step, and changes nothing.
-ghost use Rattle.std.specs.Prelude.{◌≡◌, ◌≢◌, ◌≤◌, ◌↔◌, ℕ, IsTrue, Some, None, IfOk, IfErr, IfSome, IfNone, Contains, option_map};
+ghost use Rattle.std.specs.Prelude.{◌≡◌, ◌≢◌, ◌↔◌, IsTrue, Some, None, IfOk, IfErr, IfSome, IfNone, Contains, option_map};
 ghost use Rattle.std.specs.Ordering.{nat_cmp};
 ghost use Rattle.std.specs.BTreeMap as tree;
-ghost use Rattle.tx_machine.specs.Representation.{Represents, ListedOn, Blocks};
+ghost use Rattle.tx_machine.specs.Representation.{ListedOn, Blocks};
 ghost use Rattle.tx_machine.specs.Scans.{Differs};
 ghost use Rattle.tx_machine.specs.Shown.{versions_of};
 ghost use Rattle.tx_machine.specs.Why.{IsSeen, value_of, standing_of, IsOfSet, IsWhy};

@@ -10,8 +10,8 @@ use Rattle.tx_types.specs.declared.write.WriteRec.TheVariants.{Commit, Rollback}
 use Rattle.tx_nested.specs.Indexes.{stays, goes_below}
 use Rattle.tx_cells.specs.Heads.{keeps_apart}
 use Rattle.tx_cells.specs.Drops.{Records, ValuesGo, DropsValue}
-use Rattle.tx_cells.proofs.Dropping.{none_gone, same_gone, same_after, gone_bare, gone_apart}
-use Rattle.tx_nested.proofs.Going.{stays_true, stays_false}
+use Rattle.tx_cells.proofs.Drops.{none_gone, same_gone, same_after, gone_bare, gone_apart}
+use Rattle.tx_nested.proofs.Drops.{stays_true, stays_false}
 
 -- the records from `below` on that go
 abbrev pub goes_from : ℕ → ℕ → Option ℕ → ℕ → Bool

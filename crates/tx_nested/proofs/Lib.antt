@@ -1,5 +1,5 @@
 -- Which records go where all below the safe point go but one that may stay.
-mod Going
+mod Drops
 -- What changes of nested maps make of what is held.
 mod NestedMaps
 -- The entries of nested maps, as the rows of walks.
@@ -9,8 +9,8 @@ mod NestedCollects
 -- The records below a safe point go one after the other, from the newest on.
 mod DropSteps
 -- Entries by their indexes.
-mod Rising
+mod EntryOrder
 -- Look-ups by indexes.
-mod Finding
+mod Lookups
 -- What a change leaves.
-mod Changing
+mod EntryChanges

@@ -24,7 +24,7 @@ use Rattle.tx_cells.specs.Contents.{cells_of, lock_of}
 use Rattle.tx_cells.specs.Heads.{lock_head}
 use Rattle.tx_nested.specs.Nested.{held, held_on, key_rows, before_row, lock_rows}
 use Rattle.tx_cells.proofs.Maps.{key_is}
-use Rattle.tx_cells.proofs.Showing.{lock_heads}
+use Rattle.tx_cells.proofs.RecordCells.{lock_heads}
 
 abbrev pub Entries : Type 0
 Entries = List (Key × KeyFamilies)

@@ -3,16 +3,16 @@ pub mod Alone
 -- How many events of a seat there are at most.
 pub mod Counts
 -- Requests that are held under names.
-pub mod Holding
+pub mod HeldRequests
 -- What a desk's stage is after requests.
 pub mod Stages
 -- What the post's taking makes of what is newest.
-pub mod Posting
+pub mod Posts
 -- The trace that is kept, as what is newest grows.
-pub mod Tracing
+pub mod Traces
 -- A walk through the network of one thread.
-pub mod Walking
+pub mod Walks
 -- A region shows a key.
-pub mod Showing
+pub mod ShownKeys
 -- At the end each seat has learnt what is newest.
-pub mod Learning
+pub mod SettledSeats

@@ -28,7 +28,7 @@ use Rattle.tx_steps.specs.declared.call.Call.TheVariants as call
 use Rattle.tx_reply.specs.declared.reply.ScriptReply.{ScriptReply}
 use Rattle.tx_reply.specs.declared.reply.ScriptReply.TheVariants as reply
 use Rattle.tx_ops.specs.Calls.{Said, read_reply, sent_reply, call_walk}
-use Rattle.tx_ops.proofs.Ending.{AllEnds, sends_end, read_ends, allowed_ends}
+use Rattle.tx_ops.proofs.CallEnds.{AllEnds, sends_end, read_ends, allowed_ends}
 
 -- a reply came
 abbrev pub Came : {T : Type 0} → Result T Miss → Type 0

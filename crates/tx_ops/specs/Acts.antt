@@ -1,5 +1,5 @@
 -- What a session does by itself by a line, and what the line is told.
-use Rattle.std.specs.Prelude.{◌≡◌, ◌<◌, ◌⊎◌, ℕ, Bool, true, false, List, Option, Some, None, Ok, Err}
+use Rattle.std.specs.Prelude.{◌≡◌, ◌<◌, ◌⊎◌, ℕ, Bool, true, false, List, Some, Ok, Err}
 use Rattle.tx_types.specs.declared.key.Key.{Key}
 use Rattle.tx_types.specs.declared.fault.Cause.TheVariants.{Order}
 use Rattle.tx_transaction.specs.declared.state.Terms.{Terms}

@@ -1,5 +1,4 @@
 //! What a session does by itself: it edits its buffer, declares it, and draws its commit timestamp.
-ghost use Rattle.std.specs.Prelude.{◌≡◌};
 ghost use Rattle.tx_transaction.specs.Sessions.{is_declared, can_draw};
 ghost use Rattle.tx_steps.specs.Steps.{acted};
 ghost use Rattle.tx_ops.specs.Acts.{Declares, DrawsIf, Does};

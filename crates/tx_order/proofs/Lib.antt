@@ -1,8 +1,8 @@
 pub mod Marks
-pub mod Entering
-pub mod Leaving
-pub mod Passing
-pub mod Closing
+pub mod NodeEntries
+pub mod NodeExits
+pub mod PassedEdges
+pub mod BackEdges
 pub mod Finished
 pub mod Ordered
 pub mod Cycles

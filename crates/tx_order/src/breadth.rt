@@ -1,8 +1,8 @@
 //! The search breadth first, for a cycle of fewer edges through a node.
-ghost use Rattle.std.specs.Prelude.{◌≡◌, ◌≢◌, ℕ, ◌+◌, ◌<◌, ◌≤◌, length, IfOk, IfSome, slice_index, All};
+ghost use Rattle.std.specs.Prelude.{◌≡◌, ◌≢◌, ◌+◌, ◌<◌, ◌≤◌, length, IfOk, IfSome, slice_index, All};
 ghost use Rattle.tx_order.specs.declared.graph.Edge.{Edge};
 ghost use Rattle.tx_order.specs.Graphs.{AreWithin, IsCycle};
-ghost use Rattle.tx_order.specs.Search.{AreByFrom, edge_at};
+ghost use Rattle.tx_order.specs.Search.{AreByFrom};
 
 use crate::graph::Edge;
 use crate::search::first_edge;

@@ -1,6 +1,5 @@
 //! A cycle of few edges, where one of many is known.
-ghost use Rattle.std.specs.Prelude.{◌≡◌, ℕ, ◌<◌, ◌≤◌, length, All, IfOk};
-ghost use Rattle.std.specs.List.Sorted.{IsPermutation};
+ghost use Rattle.std.specs.Prelude.{◌<◌, ◌≤◌, length, IfOk};
 ghost use Rattle.tx_order.specs.Graphs.{AreWithin, IsCycle};
 ghost use Rattle.tx_order.specs.Search.{AreByFrom};
 

@@ -1,7 +1,7 @@
 //! Either an order in which each edge rises, or a cycle.
-ghost use Rattle.std.specs.Prelude.{◌≡◌, ℕ, OnOk, IfOk, IfErr};
+ghost use Rattle.std.specs.Prelude.{◌≡◌, IfOk, IfErr};
 ghost use Rattle.std.specs.List.Sorted.{IsPermutation};
-ghost use Rattle.tx_order.specs.Graphs.{AreWithin, IsOrder, IsCycle};
+ghost use Rattle.tx_order.specs.Graphs.{AreWithin, IsOrder};
 ghost use Rattle.tx_order.specs.Search.{AreByFrom};
 ghost use Rattle.tx_order.specs.Unordered.{IsUnordered};
 

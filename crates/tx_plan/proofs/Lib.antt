@@ -7,7 +7,7 @@ pub mod KeyOrder
 -- Rows in the order of their keys, taken one after another.
 pub mod WalkRows
 -- The lock that a prewrite puts is the one that its answer tells.
-pub mod Putting
+pub mod PutLocks
 -- A transaction's lock that is committed, or refused.
 pub mod LockCommits
 -- What a view shows of a transaction.
@@ -21,7 +21,7 @@ pub mod Collects
 -- Lists in which nothing stands twice.
 pub mod OnceLists
 -- What collection drops of a region, key after key.
-pub mod Counting
+pub mod DropCounts
 -- What the cells of a key meet stays so through changes, prewrites and collection.
 pub mod Sound
 -- The pictures of docs/PROTOCOL.md: what each request there leaves, by computation.

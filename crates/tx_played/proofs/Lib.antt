@@ -1,12 +1,12 @@
 -- The first line of a text.
 pub mod FirstLines
 -- Lines put in, and the text of lines.
-pub mod PuttingIn
+pub mod Insertions
 -- Replies taken apart.
-pub mod TakingApart
+pub mod ReplyTurns
 -- Keys that lines can show.
-pub mod Showing
+pub mod ShownKeys
 -- Keys that rise, and one that is put among them.
-pub mod Rising
+pub mod KeyOrder
 -- Where the lines of a script stand once lines are put in.
-pub mod Placing
+pub mod LinePlaces

@@ -1,5 +1,5 @@
 -- A turn goes on as another does in which other growths are refused.
-pub mod Carrying
+pub mod RefusedGrowths
 -- The line that shows a key has it shown.
 pub mod Showable
 -- A play of lines is had of one with lines put in that have keys shown.

@@ -25,10 +25,10 @@ use Rattle.tx_ops.specs.Edits.{is_refused, later_of}
 use Rattle.tx_engine.specs.Semantics.{EngineState, Transition, goes, inquires, shows, stops, calls, inspects, opening, turn}
 use Rattle.tx_engine.specs.Plays.{Leads}
 use Rattle.tx_script.specs.Play.{step_turn, value_turn, said_turn, line_turn, Played, before, ending, faulted, Plays, IsPlay}
-use Rattle.tx_script.proofs.AllTelling.{is_play}
+use Rattle.tx_script.proofs.PlayReplies.{is_play}
 use Rattle.tx_played.specs.Played.{versions_line, behind, put_in}
 use Rattle.tx_played_laws.specs.Own.{HasKeyShown, words_of, own_words}
-use Rattle.tx_played_laws.proofs.Carrying.{line_carries}
+use Rattle.tx_played_laws.proofs.RefusedGrowths.{line_carries}
 
 -- a play from an engine state on whose replies, events and end are these
 abbrev pub Comes : List Key → EngineState → ℕ → List (List ℕ) → List Items → Played → Type 0
@@ -88,7 +88,8 @@ module _ (bounds : List Key) (engine : EngineState) where
   inspected G S key true false refused leads = (reply.OutOfMemory, later_of refused, leads)
   inspected G S key false false refused leads = (reply.Versions leads.0, later_of refused, leads.2)
 
-  pub one_shown : (line : List ℕ) → HasKeyShown line → (lines : List (List ℕ)) (number : ℕ) (refused : List Bool) (p : Played)
+  pub one_shown : (line : List ℕ) → HasKeyShown line → (lines : List (List ℕ)) (number : ℕ) (refused : List Bool)
+      (p : Played)
       → 1 ≤ number → number < MAX_LINES → Plays bounds engine number refused (line ∷ lines) p
       → (said : ScriptReply) × (left : List Bool) × (q : Played) × Plays bounds engine (number + 1) left lines q
       × (p ≡ before (number + 1, reply_words said) q)
@@ -201,7 +202,8 @@ module _ (bounds keys : List Key) (each : (line : List ℕ) → All HasKeyShown 
       engine (n + 1) line refused
       (subst (Leads bounds (λ next said left. (q : Played)
       × Plays bounds next (m + 1) left (behind keys line ++ put_in keys lines) q
-      × (p ≡ before (m + 1, reply_words said) q)) (λ c. p ≡ faulted engine (m + 1) c)) (line_same bounds refused engine (m + 1) (n + 1) line same (omega arith)
+      × (p ≡ before (m + 1, reply_words said) q)) (λ c. p ≡ faulted engine (m + 1) c))
+      (line_same bounds refused engine (m + 1) (n + 1) line same (omega arith)
       (omega arith)) plays) in
       let one = one_of bounds (Alike (own_words keys (line ∷ lines) p.replies) p) n lines engine
       (line_turn bounds carried.0 (n + 1) line engine) carried.1 in

@@ -30,7 +30,7 @@ use Rattle.tx_resolve.specs.BlockedReads.{read_walk}
 use Rattle.tx_resolve.specs.declared.collector.Counts.{Counts}
 use Rattle.tx_resolve.specs.Collection.{on_ok, in_regions, listed_by, raise_walk, locks_walk, clear_walk, collect_walk, raises_walk, clears_walk, collects_walk, gc_walk}
 use Rattle.tx_progress.specs.Requests.{AtMost, AnyResponse, Lists}
-use Rattle.tx_progress.proofs.Counting.{at_most, few_then}
+use Rattle.tx_progress.proofs.WalkCounts.{at_most, few_then}
 
 one : 0 < 1
 one = omega arith

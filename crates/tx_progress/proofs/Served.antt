@@ -29,7 +29,7 @@ use Rattle.tx_client.specs.Walks.{Walk, then_walk, Sends}
 use Rattle.tx_resolve.specs.Resolution.{caller_of, time_of, is_over, lets_pass, check_of, other_of, settle_of, is_async, rests_by, standing_by, primary_by, other_by, status_of, settled_by, settle_walk, further, others_walk, after_forced, forced_walk, after_others, after_primary, resolve_walk}
 use Rattle.tx_resolve.specs.BlockedReads.{read_walk}
 use Rattle.tx_progress.specs.Settlement.{IsServed, AllServed, IsSettled, LivesOn, SettlesUnlessAlive, Settles}
-use Rattle.tx_progress.proofs.Coming.{Came, AnswersAsked, came, upto_on, Below, resolves, others_told, IsChecked, Checks, checks_told}
+use Rattle.tx_progress.proofs.Results.{Came, AnswersAsked, came, upto_on, Below, resolves, others_told, IsChecked, Checks, checks_told}
 
 -- what this walk comes to where its requests are served
 pub record SettlesBy {S : Type 0} (sends : S → Asked → Reached → S → Type 0) (bounds : List Key) (w : Walk Status)

@@ -1,5 +1,5 @@
 -- Who reads at a timestamp, and what its reads find.
-use Rattle.std.specs.Prelude.{◌≡◌, ◌&&◌, ℕ, cond, List, [], ◌∷◌, Some, None, IsTrue}
+use Rattle.std.specs.Prelude.{◌≡◌, ◌&&◌, ◌<◌, ℕ, cond, List, [], ◌∷◌, Some, None, IsTrue}
 use Rattle.tx_types.specs.declared.key.Key.{Key}
 use Rattle.tx_types.specs.Keys.{key_lt, is_between}
 use Rattle.tx_plan.specs.declared.body.Body.{Body}
@@ -42,6 +42,25 @@ ScansAt bounds known at from to limit (answer.Rows rows) =
     → SeesRows (table_of (shadow h)).row (scan_at at from to limit rows)
 ScansAt bounds known at from to limit _ = Unit {0}
 
+-- the answers that a read of a key at a timestamp may have: a value, none, a lock in the way, a
+-- safe point above it, or a last number loaded that lies below it
+abbrev pub IsKeyAnswer : ℕ → Answer → Type 0
+IsKeyAnswer at (answer.Found v) = Unit {0}
+IsKeyAnswer at answer.Nothing = Unit {0}
+IsKeyAnswer at (answer.KeyIsLocked info) = Unit {0}
+IsKeyAnswer at (answer.BelowSafePoint safe) = at < safe
+IsKeyAnswer at (answer.FutureTimestamp last) = last < at
+IsKeyAnswer at _ = ⊥
+
+-- the answers that the read of a part of a range may have: rows, or what a read of a key may have
+-- where it finds nothing
+abbrev pub IsPartAnswer : ℕ → Answer → Type 0
+IsPartAnswer at (answer.Rows rows) = Unit {0}
+IsPartAnswer at (answer.KeyIsLocked info) = Unit {0}
+IsPartAnswer at (answer.BelowSafePoint safe) = at < safe
+IsPartAnswer at (answer.FutureTimestamp last) = last < at
+IsPartAnswer at _ = ⊥
+
 -- ---- requests
 
 -- the keys from one up to but not including another lie in one region
@@ -62,6 +81,11 @@ IsOfOneRegion bounds (Part from to limit) = AreTogether bounds from to
 abbrev pub FindsAt : List Key → History → ℕ → Read → Answer → Type 0
 FindsAt bounds known at (OfKey key) a = ReadsAt known at key a
 FindsAt bounds known at (Part from to limit) a = ScansAt bounds known at from to limit a
+
+-- the answers that a read at a timestamp may have
+abbrev pub IsAnswerTo : ℕ → Read → Answer → Type 0
+IsAnswerTo at (OfKey key) a = IsKeyAnswer at a
+IsAnswerTo at (Part from to limit) a = IsPartAnswer at a
 
 -- a request asks for this, at this timestamp
 abbrev pub IsReadOf : Read → ℕ → Body → Type 0

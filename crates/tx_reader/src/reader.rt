@@ -7,7 +7,7 @@ ghost use Rattle.tx_core.specs.Laws.{WasToldOf};
 ghost use Rattle.tx_core.specs.Worlds.{IsWorldRun};
 ghost use Rattle.tx_journal.specs.Senders.{IsSender};
 ghost use Rattle.tx_client.specs.Facts.{WasAnswered};
-ghost use Rattle.tx_reader.specs.Readers.{AreTogether, IsOfOneRegion, IsReadOf, FindsAt, OnlySees, ReadsAt, ScansAt};
+ghost use Rattle.tx_reader.specs.Readers.{AreTogether, IsAnswerTo, IsKeyAnswer, IsOfOneRegion, IsPartAnswer, IsReadOf, FindsAt, OnlySees, ReadsAt, ScansAt};
 
 use crate::read::Read;
 use std::alloc::Global;
@@ -169,6 +169,7 @@ impl<J: JournalId> Reader<J> {
         ensures at { self.new.at ≡ self.old.at }
         ensures seat { OnlySees self.old.seat self.new.seat }
         ensures finds { IfOk result (FindsAt J.bounds self.new.seat.events self.old.at read.now) }
+        ensures may { IfOk result (IsAnswerTo self.old.at read.now) }
     {
         let now = self.seat.last();
         for _ in 0..LOCKS {
@@ -185,7 +186,9 @@ impl<J: JournalId> Reader<J> {
     }
 
     /// Reads a key. A lock in the way is resolved, as at the last timestamp that was drawn;
-    /// `KeyIsLocked` where it still stands there. It finds what the one-step machine sees.
+    /// `KeyIsLocked` where it still stands there. It finds what the one-step machine sees. It is
+    /// answered `BelowSafePoint` where its timestamp lies below the safe point, `FutureTimestamp`
+    /// where that was not drawn yet, and nothing else.
     pub fn get<S: Sender<Request<J>, Reply<J>>>(
         &mut self,
         key: &Key,
@@ -195,6 +198,7 @@ impl<J: JournalId> Reader<J> {
         ensures at { self.new.at ≡ self.old.at }
         ensures seat { OnlySees self.old.seat self.new.seat }
         ensures finds { IfOk result (ReadsAt self.new.seat.events self.old.at key.now) }
+        ensures may { IfOk result (IsKeyAnswer self.old.at) }
     {
         let Ok(key) = key.clone() else {
             return Err(Miss::Fault);
@@ -204,7 +208,7 @@ impl<J: JournalId> Reader<J> {
 
     /// Reads the first `limit` rows from `from` up to but not including `to`, all keys of one
     /// region: `end_of_part` tells how far that goes. Locks in the way are resolved as those of
-    /// `get` are. It finds what the one-step machine sees.
+    /// `get` are. It finds what the one-step machine sees, and is refused only as `get` is.
     pub fn scan<S: Sender<Request<J>, Reply<J>>>(
         &mut self,
         from: &Key,
@@ -217,6 +221,7 @@ impl<J: JournalId> Reader<J> {
         ensures at { self.new.at ≡ self.old.at }
         ensures seat { OnlySees self.old.seat self.new.seat }
         ensures finds { IfOk result (ScansAt J.bounds self.new.seat.events self.old.at from.now to.now limit) }
+        ensures may { IfOk result (IsPartAnswer self.old.at) }
     {
         let (Ok(from), Ok(to)) = (from.clone(), to.clone()) else {
             return Err(Miss::Fault);

@@ -1,15 +1,13 @@
 -- Snapshot isolation of a recording. A committed transaction has a start and a commit above it. In
 -- each key it sees what the newest committed writer at or below its start left there, it does its
 -- operations on that, and it leaves what comes of it.
-use Rattle.std.specs.Prelude.{◌≡◌, ◌≢◌, ◌⊎◌, ℕ, ◌<◌, ◌≤◌, ◌==◌, Bool, false, cond, List, [], ◌∷◌, ◌++◌, Contains, Option, Some, IsTrue, take, slice_index_or}
-use Rattle.tx_recording.specs.declared.recording.Outcome.{Outcome}
+use Rattle.std.specs.Prelude.{◌≡◌, ◌≢◌, ◌⊎◌, ℕ, ◌<◌, ◌≤◌, ◌==◌, Bool, false, cond, List, [], ◌∷◌, ◌++◌, Contains, Some, IsTrue, take, slice_index_or}
 use Rattle.tx_recording.specs.declared.recording.Outcome.TheVariants.{Ok, Fail}
 use Rattle.tx_recording.specs.declared.recording.Span.{Span}
 use Rattle.tx_recording.specs.declared.recording.Act.{Act}
 use Rattle.tx_recording.specs.declared.recording.Act.TheVariants.{Append, Write, Read}
 use Rattle.tx_recording.specs.declared.recording.Op.{Op}
 use Rattle.tx_recording.specs.declared.recording.Orders.{Orders}
-use Rattle.tx_recording.specs.declared.recording.Transaction.{Transaction}
 use Rattle.tx_recording.specs.declared.recording.Recording.{Recording}
 use Rattle.tx_recording.specs.Recordings.{txns_of, transaction_at, ops_of, list_of, no_op}
 

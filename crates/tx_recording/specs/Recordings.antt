@@ -1,6 +1,5 @@
 -- What stands in a recording.
-use Rattle.std.specs.Prelude.{ℕ, ◌+◌, ◌-◌, ◌^◌, ◌<◌, ◌≤◌, List, length, All, Option, Some, None, take, slice_range, slice_index_or}
-use Rattle.tx_recording.specs.declared.recording.Outcome.{Outcome}
+use Rattle.std.specs.Prelude.{ℕ, ◌+◌, ◌^◌, ◌<◌, ◌≤◌, List, length, All, None, slice_range, slice_index_or}
 use Rattle.tx_recording.specs.declared.recording.Outcome.TheVariants.{Fail}
 use Rattle.tx_recording.specs.declared.recording.Span.{Span}
 use Rattle.tx_recording.specs.declared.recording.Act.{Act}

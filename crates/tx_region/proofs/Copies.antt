@@ -44,7 +44,7 @@ use Rattle.tx_region.specs.TakenRequests.{NeedsMark}
 use Rattle.tx_region.specs.declared.copy.KeyView.{KeyView}
 use Rattle.tx_region.specs.declared.copy.RegionNumbers.{RegionNumbers}
 use Rattle.tx_region.proofs.Basics.{key_test, cond_true}
-use Rattle.tx_region.proofs.Carrying.{region_by, with_same}
+use Rattle.tx_region.proofs.PlanEffects.{region_by, with_same}
 
 -- ---- what looks like a copy
 

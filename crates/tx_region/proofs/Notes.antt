@@ -16,7 +16,7 @@ use Rattle.tx_cells.specs.Contents.{OnKey, Content, cells_of, cells_in}
 use Rattle.tx_cells.specs.Afterwards.{OnlyOn}
 use Rattle.tx_cells.specs.Numbers.{noted, noted_by}
 use Rattle.tx_core.specs.LastChanges.{turn_of, NotesAll}
-use Rattle.tx_core.proofs.going_on.Making.{makes_other, puts_other}
+use Rattle.tx_core.proofs.evolution.Changes.{makes_other, puts_other}
 use Rattle.tx_region.specs.Calls.{Counts}
 use Rattle.tx_region.proofs.Basics.{key_test, cond_true, cond_false}
 

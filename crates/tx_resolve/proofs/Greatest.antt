@@ -14,10 +14,10 @@ use Rattle.tx_core.specs.Laws.{HadAsyncLock}
 use Rattle.tx_core.proofs.Basics.{key_test, key_true, some_same}
 use Rattle.tx_core.proofs.view.View.{does_within}
 use Rattle.tx_core.proofs.runs.AllRuns.{run_told}
-use Rattle.tx_core.proofs.seats.Staying.{set_on}
+use Rattle.tx_core.proofs.seats.Stays.{set_on}
 use Rattle.tx_core.proofs.locks.ToldLocks.{is_lock_on}
 use Rattle.tx_resolve.specs.Facts.{IsPrimarysLock, HadLocks}
-use Rattle.tx_resolve.proofs.Allowing.{lists_others}
+use Rattle.tx_resolve.proofs.AllowedRequests.{lists_others}
 
 -- ---- what was had stays so
 

@@ -1,9 +1,9 @@
 -- What a resolver knows stays so while it asks, and how sends follow one another.
-pub mod Knowing
+pub mod Knowledge
 -- What a resolver asks is allowed.
-pub mod Allowing
+pub mod AllowedRequests
 -- What answers to a resolver tell is so.
-pub mod Finding
+pub mod ResolverAnswers
 -- Where each key had an async lock, their transaction is committed at the greatest minimum.
 pub mod Greatest
 -- The other keys are asked one after another.
@@ -11,4 +11,4 @@ pub mod Others
 -- Regions, and locks, are gone through one after another.
 pub mod Regions
 -- What may come of a collector's requests.
-pub mod Hearing
+pub mod CollectorAnswers

@@ -9,7 +9,7 @@ use Rattle.tx_journal.specs.Known.{Known}
 use Rattle.tx_journal.specs.Replies.{Asked}
 use Rattle.tx_journal.specs.Senders.{Reached}
 use Rattle.tx_client.specs.Walks.{Walk, Sends, Continues}
-use Rattle.tx_client.proofs.Looking.{sent_then}
+use Rattle.tx_client.proofs.Sends.{sent_then}
 use Rattle.tx_resolve.specs.declared.found.Others.{Others}
 use Rattle.tx_resolve.specs.declared.found.Others.TheVariants as others
 use Rattle.tx_resolve.specs.declared.found.Other.TheVariants as other

@@ -1,6 +1,6 @@
 //! Text as markup has it.
 ghost use Rattle.std.specs.Prelude.{◌≡◌, ◌<◌, ◌++◌, length, OnOk};
-ghost use Rattle.tx_ring.specs.Markup.{each_of, is_no_character, named_byte, marked_byte, marked};
+ghost use Rattle.tx_ring.specs.Markup.{is_no_character, named_byte, marked_byte, marked};
 
 use std::alloc::AllocError;
 

@@ -1,6 +1,5 @@
 //! The parts of a picture of a ring, from its head to its end.
 ghost use Rattle.std.specs.Prelude.{◌≡◌, ◌-◌, ◌++◌, decimal, OnOk};
-ghost use Rattle.tx_ring.specs.Markup.{marked};
 ghost use Rattle.tx_ring.specs.Rings.{few, top_of, height_of, width_of, reach_of, size_text, head_text, box_text, arrow_text, words_text, step_text, end_text};
 
 use crate::markup::put_text;

@@ -27,12 +27,12 @@ use Rattle.tx_reply.specs.declared.reply.ScriptReply.{ScriptReply}
 use Rattle.tx_reply.specs.declared.reply.ScriptReply.TheVariants as reply
 use Rattle.tx_evidence.specs.Lines.{bounds_at, bounds_by, bounds_of, step_by}
 use Rattle.tx_evidence.specs.Tells.{Entered, TellsBy}
-use Rattle.tx_evidence.proofs.Staying.{tells_on}
+use Rattle.tx_evidence.proofs.Stays.{tells_on}
 use Rattle.tx_client.specs.Calls.{Seated}
 use Rattle.tx_transfer.specs.declared.plain_reply.PlainReply.{PlainReply}
 use Rattle.tx_transfer.specs.Replies.{reply_by, reply_of, said_of}
 use Rattle.tx_transfer.specs.Seeds.{WasSeeded}
-use Rattle.tx_transfer.proofs.Seeding.{seeded_on}
+use Rattle.tx_transfer.proofs.SeedWrites.{seeded_on}
 use Rattle.tx_transfer.specs.Sources.{HasLine, HasPair, pair_in, pair_of, pair_said}
 use Rattle.tx_run.specs.declared.reply.LineAnswer.{LineAnswer}
 use Rattle.tx_run.specs.declared.reply.LineAnswer.TheVariants.{Plain, Ended}
@@ -42,7 +42,7 @@ use Rattle.tx_run.specs.Logs.{answer_to}
 use Rattle.tx_run.specs.ScriptLines.{KeepsText, name_in, step_for, step_of}
 use Rattle.tx_run.specs.Steps.{Says, SaysStep, step_at}
 use Rattle.tx_run.specs.Tells.{AllTell, AnswerTells, EnteredBefore, IsBegun, OpensWith, SaidTells, SaysOfSession, TellsLine, TellsSeed, is_refusal}
-use Rattle.tx_run.proofs.Telling.{begin_tells}
+use Rattle.tx_run.proofs.StepReplies.{begin_tells}
 
 module _ (source : Option (List ℕ)) (bounds : List Key) where
   -- ---- as more is known
@@ -163,7 +163,8 @@ module _ (source : Option (List ℕ)) (bounds : List Key) where
     done_tells plain is says =
         let what = says.0 in
         reply_tells what plain says.1
-        (subst (λ (r : ScriptReply). TellsBy bounds (EnteredBefore source number) h what r × TellsSeed h what r) (sym is)
+        (subst (λ (r : ScriptReply). TellsBy bounds (EnteredBefore source number) h what r
+        × TellsSeed h what r) (sym is)
         (tt, no_seed what reply.Fine says.2))
 
     is_refused : (e : Fault) → is_refusal (reply_of e) ≡ true
@@ -237,7 +238,8 @@ list_step ds None items is = refl
 list_step ds (Some w) items is = ap (option_and_then (λ x. said x w.1)) (regions_word w items is)
 
 items_step : (ds : Items) (o : Option Items) (ks : List Key) → list_said ds ≡ o
-    → option_and_then (λ items. option_and_then (λ l. if are_rising l then Some l else None) (all_keys items)) o ≡ Some ks
+    → option_and_then (λ items. option_and_then (λ l. if are_rising l then Some l else None) (all_keys items)) o
+    ≡ Some ks
     → step_said Run ds ≡ None
 items_step ds None ks is some = absurd (cc (some))
 items_step ds (Some items) ks is some =
@@ -285,12 +287,13 @@ step_says (Some text) number what says = ap is_some says
 pub session_step : (source : Option (List ℕ)) (number : ℕ) → SaysOfSession source number → SaysStep source number
 session_step source number says = step_says source number says.0 says.1
 
-module _ (source : Option (List ℕ)) (number : ℕ) (it : Step (Bor Text)) (says : Says source number (Some (asked it))) where
-  pub begin_says : (name : Bor Text) → it ≡ step.Begin name → SaysOfSession source number
-  begin_says name is = (asked it, says, ap (λ (s : Step (Bor Text)). is_some (name_in (asked s))) is)
+module _ (source : Option (List ℕ)) (number : ℕ) (it : Step (Bor Text)) (says : Says source number (Some (asked it)))
+  where
+    pub begin_says : (name : Bor Text) → it ≡ step.Begin name → SaysOfSession source number
+    begin_says name is = (asked it, says, ap (λ (s : Step (Bor Text)). is_some (name_in (asked s))) is)
 
-  pub act_says : (name : Bor Text) (what : Op (Bor Text)) → it ≡ step.Act name what → SaysOfSession source number
-  act_says name what is = (asked it, says, ap (λ (s : Step (Bor Text)). is_some (name_in (asked s))) is)
+    pub act_says : (name : Bor Text) (what : Op (Bor Text)) → it ≡ step.Act name what → SaysOfSession source number
+    act_says name what is = (asked it, says, ap (λ (s : Step (Bor Text)). is_some (name_in (asked s))) is)
 
 module _ (number : ℕ) (what : Step Text) where
   for_by : (b : Bool) (o : Option (Step Text)) → (if b then None else o) ≡ Some what → o ≡ Some what

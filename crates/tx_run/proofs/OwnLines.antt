@@ -28,12 +28,12 @@ use Rattle.tx_evidence.proofs.Buffers.{all_more}
 use Rattle.tx_client.specs.Calls.{Seated}
 use Rattle.tx_transfer.specs.Acts.{Acts}
 use Rattle.tx_ops.specs.Calls.{Said, call_walk}
-use Rattle.tx_transfer.specs.Sending.{SendsOver}
+use Rattle.tx_transfer.specs.Sends.{SendsOver}
 use Rattle.tx_run.specs.Faults.{opens}
 use Rattle.tx_run.specs.Readers.{HasSession}
 use Rattle.tx_run.specs.ScriptLines.{KeepsText, is_named, lines_of_session, name_in, numbered, session_names, session_of, step_for}
 use Rattle.tx_run.specs.Tells.{AreEntered, AreOf, AreOwn, ComeLater, EnteredBy, EnteredBefore, SaidTells, SaysOwn, session_name}
-use Rattle.tx_run.proofs.Telling.{act_tells, send_tells}
+use Rattle.tx_run.proofs.StepReplies.{act_tells, send_tells}
 
 -- ---- whose a line is
 
@@ -54,7 +54,8 @@ module _ (number : ℕ) (what : Step Text) (name other : Text) (is : name_in wha
   by_line None says named = absurd (cc (says))
   by_line (Some line) says named = by_data (data_said number line) says named
 
-module _ (source : Option (List ℕ)) (job number line : ℕ) (what : Step Text) (name : Text) (is : name_in what ≡ Some name)
+module _ (source : Option (List ℕ)) (job number line : ℕ) (what : Step Text) (name : Text) (is : name_in what
+    ≡ Some name)
     (own : SaysOwn source job number what) where
   -- what a session entered was entered under the name that its line says, and the other way round
   to_name : (k : Key) (o : Option Value) → EnteredBy source job line k o → EnteredBefore source line name k o
@@ -121,8 +122,10 @@ module _ (source : Option (List ℕ)) (bounds : List Key) (job number : ℕ) (na
   act_own resolver after o own acts =
       let what : Step Text = step.Act name o in
       let line = number + 1 in
-      let tells = act_tells bounds (EnteredBefore source line) name (EnteredBefore source number) old new resolver after o
-      said (own_name source job number line what name refl own old.state.buffer (next_entered source job number old.state.buffer entered))
+      let tells = act_tells bounds (EnteredBefore source line) name (EnteredBefore source number) old new resolver
+      after o
+      said (own_name source job number line what name refl own old.state.buffer
+      (next_entered source job number old.state.buffer entered))
       (line_enters source job number what name own) acts in
       (name_own source job number line what name refl own new.state.buffer tells.0, tells.1)
 
@@ -131,8 +134,11 @@ module _ (source : Option (List ℕ)) (bounds : List Key) (job number : ℕ) (na
   send_own c d own sends =
       let what : Step Text = step.Send name c d in
       let tells = send_tells bounds (EnteredBefore source number) name old new c d said
-      (own_name source job number number what name refl own old.state.buffer entered) sends in
-      (next_entered source job number new.state.buffer (name_own source job number number what name refl own new.state.buffer tells.0), tells.1)
+      (own_name source job number number what name refl own old.state.buffer entered) sends in (
+        next_entered source job number new.state.buffer
+            (name_own source job number number what name refl own new.state.buffer tells.0),
+        tells.1,
+      )
 
 -- what lines up to this one entered, lines before each later one did
 pub later_entered : (source : Option (List ℕ)) (job number : ℕ) (left : List ℕ) (es : Entries)
@@ -176,7 +182,8 @@ numbered_at n (line ∷ lines) (suc i) e is =
     let more = numbered_at (n + 1) lines i e is in
     (omega (arith, more.0), more.1)
 
-of_session : (text : List ℕ) (name : Text) → All (λ n. HasSession (Some text) n name) (lines_of_session name (lines_of text))
+of_session : (text : List ℕ) (name : Text) → All (λ n. HasSession (Some text) n name)
+    (lines_of_session name (lines_of text))
 of_session text name = all_filtered (λ n. HasSession (Some text) n name) (λ l. is_named name (session_of l.0 l.1))
     (numbered (lines_of text)) each
   where

@@ -1,12 +1,10 @@
 -- The text of what a run answers.
-use Rattle.std.specs.Prelude.{ℕ, List, Result, Ok, Err}
+use Rattle.std.specs.Prelude.{ℕ, List, Ok, Err}
 use Rattle.serde_json.specs.Data.{Items}
-use Rattle.tx_types.specs.declared.fault.Cause.{Cause}
 use Rattle.tx_reply.specs.declared.reply.ScriptReply.TheVariants as line
 use Rattle.tx_reply.specs.Replies.{reply_words}
 use Rattle.tx_text.specs.Members.{reply_text}
 use Rattle.tx_text.specs.Faults.{fault_words}
-use Rattle.tx_transfer.specs.declared.plain_reply.PlainReply.{PlainReply}
 use Rattle.tx_run.specs.declared.reply.LineAnswer.{LineAnswer}
 use Rattle.tx_run.specs.declared.reply.LineAnswer.TheVariants.{Plain, Ended}
 use Rattle.tx_run.specs.declared.reply.LineReply.{LineReply}

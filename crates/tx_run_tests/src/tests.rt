@@ -1,7 +1,7 @@
 //! Runs, over both families.
 mod gates;
-mod meeting;
 mod refused;
+mod rendezvous;
 mod streams;
 mod transfers;
 

@@ -14,7 +14,7 @@ use Rattle.tx_steps.specs.Lines.{data_said, bounds_in}
 use Rattle.tx_engine.specs.Semantics.{EngineState, Transition, goes, stops}
 use Rattle.tx_engine.specs.Plays.{Leads}
 use Rattle.tx_engine.specs.Slots.{Held, engine_state, Goes, TurnedBy}
-use Rattle.tx_engine.proofs.Keeping.{rested}
+use Rattle.tx_engine.proofs.SlotCounts.{rested}
 use Rattle.tx_script.specs.Play.{value_turn}
 
 module _ (bounds : List Key) where

@@ -13,7 +13,7 @@ use Rattle.tx_script.specs.Play.{Played, render}
 use Rattle.tx_script.specs.Checked.{IsBegun}
 use Rattle.tx_script.specs.Numbered.{numbered_lines, numbers_told, AreNumbers, EndsNumberedLines, BreaksNumberedLines}
 use Rattle.tx_script.specs.Loops.{EndsAt, NumberedAt, TellsNumbers, BeginsNumbers}
-use Rattle.tx_script.proofs.AllTelling.{is_play}
+use Rattle.tx_script.proofs.PlayReplies.{is_play}
 
 module _ (bounds : List Key) (e : Held) (came : length e.network.newest ≤ own e)
     (run : IsWorldRun bounds e.network.newest) (lines : List (List ℕ)) (old mid new : Option (List ℕ)) where

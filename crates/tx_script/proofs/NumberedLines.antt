@@ -22,7 +22,7 @@ use Rattle.tx_script.specs.Play.{line_turn}
 use Rattle.tx_script.specs.Loops.{Ahead, FoundTurned, FitsFound, NotesLine, NumberedAt}
 use Rattle.tx_script.proofs.Scripts.{Counts, before_too, exactly}
 use Rattle.tx_script.proofs.Lines.{reads_ahead}
-use Rattle.tx_script.proofs.Numbering.{NumbersSoFar, none_so_far, numbers_on, numbered_at, line_grew, counted, filled}
+use Rattle.tx_script.proofs.LineNumbers.{NumbersSoFar, none_so_far, numbers_on, numbered_at, line_grew, counted, filled}
 
 module _ (bounds : List Key) (number : ℕ) (line : List ℕ) (e next : Held) where
   reply_goes : (f : Found) (reply : ScriptReply) → FitsFound f (turned.Goes reply)

@@ -10,12 +10,12 @@ use Rattle.tx_reply.specs.Replies.{reply_words}
 use Rattle.tx_engine.specs.Semantics.{EngineState, opening}
 use Rattle.tx_engine.specs.Slots.{Held, engine_state, own, AllSeated, Goes, TurnedBy}
 use Rattle.tx_engine.specs.Openings.{IsOpening}
-use Rattle.tx_engine.proofs.Keeping.{all_fewer}
+use Rattle.tx_engine.proofs.SlotCounts.{all_fewer}
 use Rattle.tx_script.specs.Play.{line_turn, Played, Plays, ending}
 use Rattle.tx_script.specs.Loops.{BetweenLines}
 use Rattle.tx_script.specs.Players.{PlayerState, after, SoFar, HasPlayed, IsPlayer, IsFault, EndWellWith}
 use Rattle.tx_script.proofs.Scripts.{so_next}
-use Rattle.tx_script.proofs.AllTelling.{is_play}
+use Rattle.tx_script.proofs.PlayReplies.{is_play}
 
 -- what is so after any refusal
 pub on_err_any : {T E : Type 0} (P : Type 0) (r : Result T E) → P → OnErr r P
@@ -87,6 +87,12 @@ module _ (bounds : List Key) where
         (Err why) old.engine new.engine) → length new.engine.network.newest ≤ own new.engine
         → IsFault bounds old line why
     faults why goes le refused = (exactly _ goes le).1 refused
+
+    pub as_before : (why : Cause)
+        → Goes bounds old.engine new.engine (TurnedBy bounds (λ refused. line_turn bounds refused (old.number + 1) line)
+        (Err why) old.engine new.engine) → length new.engine.network.newest ≤ own new.engine
+        → engine_state new.engine ≡ engine_state old.engine
+    as_before why goes le = (exactly _ goes le).0
 
     pub stays : (why : Cause) → new.number ≡ old.number
         → Goes bounds old.engine new.engine (TurnedBy bounds (λ refused. line_turn bounds refused (old.number + 1) line)

@@ -24,7 +24,7 @@ use Rattle.tx_network.specs.Networks.{NetworkParts, IsTraced}
 use Rattle.tx_engine.specs.Slots.{Held, engine_state, own, AllSeated, Goes, GoesTo, TurnedBy}
 use Rattle.tx_engine.specs.Openings.{IsOpening}
 use Rattle.tx_engine.proofs.AllGrow.{leads_begin}
-use Rattle.tx_engine.proofs.Keeping.{all_fewer}
+use Rattle.tx_engine.proofs.SlotCounts.{all_fewer}
 use Rattle.tx_script.specs.Play.{line_turn, Played, before, ending, faulted, Plays, render}
 use Rattle.tx_script.specs.Players.{after, SoFar}
 use Rattle.tx_script.specs.Loops.{BetweenLines, EndsAt, BreaksAt}

@@ -15,7 +15,7 @@ use Rattle.tx_script.specs.Loops.{Ahead, FoundTurned, FitsFound}
 use Rattle.tx_script.specs.Stages.{line_stage, IsOutOfOrder, NotesStage}
 use Rattle.tx_script.proofs.Scripts.{Counts, PlaysOn, before_too, exactly}
 use Rattle.tx_script.proofs.Lines.{On}
-use Rattle.tx_script.proofs.Ending.{if_some}
+use Rattle.tx_script.proofs.Ends.{if_some}
 
 module _ (bounds : List Key) (number : ℕ) (line : List ℕ) (left : Option (List ℕ)) (e next : Held) where
   -- it is a line that was read: of one that is too long that is the cause

@@ -1,8 +1,7 @@
 -- Where the loop over the lines stands. Only this crate's own clauses cite it.
-use Rattle.std.specs.Prelude.{◌≡◌, ◌⊎◌, ◌<◌, ◌≤◌, ◌-◌, ℕ, List, [], ◌∷◌, ◌++◌, Bool, length, take, replicate, Option, Some, None, IfSome, Result, Ok, Err}
+use Rattle.std.specs.Prelude.{◌≡◌, ◌⊎◌, ◌<◌, ◌≤◌, ◌-◌, ℕ, List, [], ◌∷◌, ◌++◌, Bool, length, take, replicate, Option, Some, None, IfSome, Ok, Err}
 use Rattle.std.specs.List.{concat}
 use Rattle.std.specs.Io.KnownBytes.{Appends, Keeps}
-use Rattle.tx_types.specs.declared.fault.Cause.{Cause}
 use Rattle.tx_types.specs.declared.fault.Cause.TheVariants as cause
 use Rattle.tx_types.specs.declared.key.Key.{Key}
 use Rattle.tx_types.specs.declared.limits.TheConstants.{MAX_LIVE_SESSIONS}
@@ -16,7 +15,6 @@ use Rattle.tx_text.specs.declared.end.End.TheVariants.{Well, Faulted}
 use Rattle.tx_text.specs.declared.end.End.TheVariants as ended
 use Rattle.tx_text.specs.declared.lines.Found.{Found}
 use Rattle.tx_text.specs.declared.lines.Found.TheVariants as found
-use Rattle.tx_reply.specs.declared.reply.ScriptReply.{ScriptReply}
 use Rattle.tx_text.specs.Lines.{lines_of, max_line}
 use Rattle.tx_engine.specs.Semantics.{opening}
 use Rattle.tx_engine.specs.Slots.{Held, engine_state, own, AllSeated, TurnedBy}

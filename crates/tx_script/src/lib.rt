@@ -14,13 +14,13 @@ mod asked;
 mod checked;
 mod line;
 mod numbered;
-mod opening;
 mod player;
 mod script;
+mod simulation;
 mod stage;
 
-pub use opening::{bounds_in, simulate, simulate_checked, simulate_numbered};
 pub use player::Player;
+pub use simulation::{bounds_in, simulate, simulate_checked, simulate_numbered};
 pub use tx_cells::{Makes, Plain};
 pub use tx_check::{check, check_with_reason};
 pub use tx_engine::SessionStage;

@@ -88,10 +88,9 @@ pub(crate) fn play_line<J: JournalId, F: Families>(
     ensures err { IfErr result (λ why. why ≡ Broken.Memory) }
 {
     let mut parts = Parts::new();
-    match Line::read(alloc, number, line, &mut parts) {
-        Ok(Ok(said)) => play_said(alloc, engine, number, &said),
-        Ok(Err(cause)) => Ok(Err(cause)),
-        Err(_) => Err(Broken::Memory),
+    match Line::read(alloc, number, line, &mut parts)? {
+        Ok(said) => play_said(alloc, engine, number, &said),
+        Err(cause) => Ok(Err(cause)),
     }
 }
 

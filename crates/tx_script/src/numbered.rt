@@ -18,7 +18,7 @@ use tx_machine::Step;
 use tx_text::{Broken, End, send};
 use tx_trace::Trace;
 
-// Notes them where numbers are noted.
+// The same where numbers are noted: apart, so that a script without them pays for a test alone.
 fn note_steps(numbers: &mut Option<Vec<u64>>, number: u64, made: Option<usize>)
     ensures { NotesLine number made (option_map (λ v. v.items) numbers.old) (option_map (λ v. v.items) numbers.new) }
 {

@@ -1,5 +1,5 @@
 //! A player: lines are tried one after another, and one that is a fault leaves it as it was.
-ghost use Rattle.std.specs.Prelude.{◌≡◌, ◌+◌, ◌≤◌, ◌⊎◌, ℕ, List, [], ◌∷◌, ◌++◌, All, vec_len, length, IfOk, IfErr, OnOk, OnErr};
+ghost use Rattle.std.specs.Prelude.{◌≡◌, ◌+◌, ◌≤◌, ◌⊎◌, ℕ, List, [], ◌∷◌, ◌++◌, All, vec_len, length, IfOk, IfErr, OnErr};
 ghost use Rattle.serde_json.specs.Data.{Items};
 ghost use Rattle.tx_types.specs.declared.limits.TheConstants as limits;
 ghost use Rattle.tx_cells.specs.Contents.{nothing_held};
@@ -9,8 +9,8 @@ ghost use Rattle.tx_script.specs.Players.{PlayerState, HasPlayed, IsPlayer, IsFa
 ghost use Rattle.tx_script.specs.Stages.{line_stage};
 
 use crate::line::play_line;
-use crate::opening::engine_over;
 use crate::script::close;
+use crate::simulation::engine_over;
 use crate::stage::line_stage;
 use std::alloc::Global;
 use std::marker::Model;
@@ -98,10 +98,14 @@ impl<J: JournalId, F: Families + Drop> Player<J, F> {
         ensures plays { IfOk result (λ said. IfOk said (λ reply. (lines : List (List ℕ)) (done : List (ℕ × Items))
             → HasPlayed J.bounds lines done self.old → HasPlayed J.bounds (lines ++ line.now ∷ [])
             (done ++ (self.new.number, reply_words reply) ∷ []) self.new)) }
-        // It is a fault, for this cause, or too many were tried.
+        // Where nobody else acted, it is a fault for this cause; or too many were tried.
         ensures faults { IfOk result (λ said. IfErr said (λ cause. ((cause ≡ Cause.Lines) × (self.old.left ≡ 0))
             ⊎ (length self.new.engine.network.newest ≤ own self.new.engine
             → IsFault J.bounds self.old line.now cause))) }
+        // A fault: the engine state is as it was.
+        ensures as_before { IfOk result (λ said. OnErr said ((self.new.number ≡ self.old.number)
+            × (length self.new.engine.network.newest ≤ own self.new.engine
+            → engine_state self.new.engine ≡ engine_state self.old.engine))) }
         // A fault, or want of memory: it has played the same.
         ensures stays { IfOk result (λ said. OnErr said ((lines : List (List ℕ)) (done : List (ℕ × Items))
             → HasPlayed J.bounds lines done self.old → HasPlayed J.bounds lines done self.new)) }

@@ -86,8 +86,8 @@ fn play_lines<J: JournalId, F: Families, R: BufRead, W: Write>(
     }
 }
 
-/// Ends the play: nobody else acted, so that what is newest is no more than was made here, and a run
-/// of the protocol. The machine's steps of it, where they were kept.
+/// Ends the play: nobody else acted, so that what is newest is no more than was made here, and a
+/// run of the protocol. The machine's steps of it, where they were kept.
 pub(crate) fn close<J: JournalId, F: Families + Drop>(engine: Engine<J, F>) -> Option<Trace>
     requires kept { BetweenLines J.bounds engine }
     requires seats { J.seats ≡ length J.bounds + 2 + limits.MAX_LIVE_SESSIONS }

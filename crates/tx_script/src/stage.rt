@@ -51,10 +51,9 @@ pub(crate) fn line_stage<J: JournalId, F: Families>(
     ensures err { IfErr result (λ why. why ≡ Broken.Memory) }
 {
     let mut parts = Parts::new();
-    match Line::read(alloc, number, line, &mut parts) {
-        Ok(Ok(said)) => Ok(step_stage(engine, said.step(Program::Simulate))),
-        Ok(Err(_)) => Ok(None),
-        Err(_) => Err(Broken::Memory),
+    match Line::read(alloc, number, line, &mut parts)? {
+        Ok(said) => Ok(step_stage(engine, said.step(Program::Simulate))),
+        Err(_) => Ok(None),
     }
 }
 

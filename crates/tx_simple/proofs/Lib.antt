@@ -1,16 +1,18 @@
 -- Seats and sessions that go on, one call after another.
-pub mod Going
+pub mod CallSequences
 -- A session's commit lies above those that its seat was told of before it declared.
-pub mod Placing
+pub mod CommitOrder
 -- How a try ends after tries without effect, so the whole ends.
-pub mod Retrying
+pub mod Retries
 -- What a session's reads find.
-pub mod Reading
+pub mod ReadAnswers
+-- What a session's reads are answered.
+pub mod ReadReplies
 -- The rows of pages are the rows of their range.
-pub mod Paging
+pub mod Pages
 -- What was entered of keys, over rows.
-pub mod Entering
+pub mod Entries
 -- The rows of a range, with what was entered over them.
-pub mod Ranging
+pub mod Ranges
 -- No key lies above the greatest.
 pub mod Topmost

@@ -7,10 +7,10 @@ use Rattle.tx_client.specs.Calls.{Seated, BeganAt}
 use Rattle.tx_transaction.specs.declared.state.Terms.{Terms}
 use Rattle.tx_transaction.specs.Buffers.{Entries}
 use Rattle.tx_simple.specs.declared.failure.Failure.{Failure}
-use Rattle.tx_simple.specs.declared.ending.Seats.{Seats}
-use Rattle.tx_simple.specs.declared.ending.Ended.{Ended}
-use Rattle.tx_simple.specs.declared.ending.Unended.{Unended}
-use Rattle.tx_simple.specs.declared.ending.Unended.TheVariants as unended
+use Rattle.tx_simple.specs.declared.ended.Seats.{Seats}
+use Rattle.tx_simple.specs.declared.ended.Ended.{Ended}
+use Rattle.tx_simple.specs.declared.ended.Unended.{Unended}
+use Rattle.tx_simple.specs.declared.ended.Unended.TheVariants as unended
 use Rattle.tx_simple.specs.Updates.{SeatGoesOn, EndedWith, TriesInVain, Works, CommitsAboveKnown}
 
 -- the session over this seat ended so, with this value, this stopped it, and the other seat is this

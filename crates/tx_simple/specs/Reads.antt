@@ -1,5 +1,5 @@
 -- What a transaction that is lent finds where it reads.
-use Rattle.std.specs.Prelude.{◌≡◌, ℕ, cond, List, Option, Some, None}
+use Rattle.std.specs.Prelude.{◌≡◌, ◌≤◌, ℕ, cond, List, Option, Some, None}
 use Rattle.tx_types.specs.declared.key.Key.{Key}
 use Rattle.tx_types.specs.declared.value.Value.{Value}
 use Rattle.tx_types.specs.declared.mutation.KeyValue.{KeyValue}
@@ -9,10 +9,11 @@ use Rattle.tx_types.specs.Keys.{is_scanned}
 use Rattle.tx_plan.specs.declared.answer.Answer.{Answer}
 use Rattle.tx_plan.specs.declared.answer.Answer.TheVariants as answer
 use Rattle.tx_machine.specs.Machine.{Sees, SeesRows, table_of}
-use Rattle.tx_core.specs.Histories.{History, Begins}
+use Rattle.tx_core.specs.Histories.{History, last, Begins}
 use Rattle.tx_core.specs.Shadow.{shadow}
 use Rattle.tx_core.specs.Worlds.{IsWorldRun}
 use Rattle.tx_transaction.specs.Buffers.{Entries, buffered, is_known}
+use Rattle.tx_client.specs.Calls.{Seated}
 use Rattle.tx_laws.specs.Scans.{scan_at}
 use Rattle.tx_laws.specs.Rows.{AreRowsOf}
 use Rattle.tx_simple.specs.Ranges.{is_in_range}
@@ -39,6 +40,25 @@ AnswersRead entered h start key _ = Unit {0}
 abbrev pub AnswersScan : History → ℕ → Key → Key → ℕ → Answer → Type 0
 AnswersScan h start from to limit (answer.Rows rows) = FindsRows h start from to limit rows
 AnswersScan h start from to limit _ = Unit {0}
+
+-- the answers that a read of a key may have: a value, none, a lock in the way, or the safe point
+abbrev pub IsGetAnswer : Answer → Type 0
+IsGetAnswer (answer.Found v) = Unit {0}
+IsGetAnswer answer.Nothing = Unit {0}
+IsGetAnswer (answer.KeyIsLocked info) = Unit {0}
+IsGetAnswer (answer.BelowSafePoint safe) = Unit {0}
+IsGetAnswer _ = ⊥
+
+-- the answers that a scan may have: rows, a lock in the way, or the safe point
+abbrev pub IsScanAnswer : Answer → Type 0
+IsScanAnswer (answer.Rows rows) = Unit {0}
+IsScanAnswer (answer.KeyIsLocked info) = Unit {0}
+IsScanAnswer (answer.BelowSafePoint safe) = Unit {0}
+IsScanAnswer _ = ⊥
+
+-- the seat of a session has seen its start drawn: it lies at or below the last number drawn
+abbrev pub HasSeenStart : Seated → Type 0
+HasSeenStart s = s.state.start ≤ last s.seat.events
 
 -- The rows of a range of any number of keys, with what was entered over what the one-step machine
 -- sees there at the start: of each key of it they tell what a read of that key finds.

@@ -28,13 +28,24 @@ abbrev pub stop_of_miss : Miss → Stop
 stop_of_miss miss.Lost = stop.Lost
 stop_of_miss miss.Fault = stop.Refused fault.OutOfMemory
 
--- what a refusal comes to: a lock in the way, a value of an inserted key, the safe point; and any
--- other is a conflict
+-- what a refusal comes to: a lock in the way, a value of an inserted key, the safe point, or a
+-- timestamp that was not drawn yet; and any other is a conflict
 abbrev pub stop_of_refusal : Answer → Stop
 stop_of_refusal (answer.KeyIsLocked info) = stop.Waits wait.Live
 stop_of_refusal answer.AlreadyExists = stop.AlreadyExists
 stop_of_refusal (answer.BelowSafePoint safe) = stop.BelowSafePoint
+stop_of_refusal (answer.FutureTimestamp last) = stop.Refused (fault.FutureTimestamp last)
 stop_of_refusal _ = stop.Conflict
+
+-- why a read stops: a lock in the way whose transaction lives or could not be asked, the safe
+-- point, a lost reply, or memory that was refused
+abbrev pub IsReadStop : Stop → Type 0
+IsReadStop (stop.Waits why) = Unit {0}
+IsReadStop stop.BelowSafePoint = Unit {0}
+IsReadStop stop.Lost = Unit {0}
+IsReadStop (stop.Refused f) = f ≡ fault.OutOfMemory
+IsReadStop stop.Conflict = ⊥
+IsReadStop stop.AlreadyExists = ⊥
 
 -- why nothing is entered of a key: it would be one too many, or memory was refused
 abbrev pub IsEntryStop : Bool → Stop → Type 0

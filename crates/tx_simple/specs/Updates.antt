@@ -95,8 +95,8 @@ abbrev pub OnNoStop : {E : Type 0} → Option (Failure E) → Type 0 → Type 0
 OnNoStop None P = P
 OnNoStop (Some failure) P = Unit {0}
 
-module _ {W O E : Type 0} (does : W → Entries → Result O (Failure E) → Entries → W → Type 0) (bounds : List Key) (terms :
-    Terms) where
+module _ {W O E : Type 0} (does : W → Entries → Result O (Failure E) → Entries → W → Type 0)
+    (bounds : List Key) (terms : Terms) where
   -- The work was called, once, in a transaction in which nothing was entered; its value is what it
   -- answered; where nothing stopped that, the work answered well, and what it left entered is what
   -- was declared.

@@ -2,10 +2,11 @@
 ghost use Rattle.std.specs.Prelude.{◌≡◌, true, false, [], OnOk, IfOk, IfErr};
 ghost use Rattle.tx_transaction.specs.Sessions.{is_declared, has_primary};
 ghost use Rattle.tx_journal.specs.Senders.{IsSender};
+ghost use Rattle.tx_simple.specs.Reads.{HasSeenStart};
 ghost use Rattle.tx_simple.specs.Updates.{SeatGoesOn, Follows, MayHaveDeclared, Wrote, Works};
 ghost use Rattle.tx_simple.specs.Endings.{EndsOver, IsUnended};
 
-use crate::ending::{Ended, Seats, Unended, finished};
+use crate::ended::{Ended, Seats, Unended, finished};
 use crate::failure::{Failure, failed_by};
 use crate::session::{Begun, Running};
 use crate::stops::Stop;
@@ -36,6 +37,7 @@ fn applied<J: JournalId, S: Sender<Request<J>, Reply<J>>, W: Work, B: Begun>(
 ) -> Applied<J, W::Out, W::Err>
     requires way { IsSender J.bounds S.fits S.sends S.keys_between }
     requires open { is_declared session.state ≡ false }
+    requires drawn { HasSeenStart session }
     requires session { session ≡ B.session }
     requires resolver { resolver ≡ B.resolver }
     ensures session { Follows B.session result.0 }
@@ -59,6 +61,7 @@ fn apply<J: JournalId, S: Sender<Request<J>, Reply<J>>, W: Work>(
 ) -> Applied<J, W::Out, W::Err>
     requires way { IsSender J.bounds S.fits S.sends S.keys_between }
     requires open { is_declared session.state ≡ false }
+    requires drawn { HasSeenStart session }
     ensures session { Follows session result.0 }
     ensures resolver { SeatGoesOn resolver result.1 }
     ensures did { W.does work.old session.state.buffer result.2 result.0.state.buffer work.new }
@@ -135,6 +138,7 @@ fn run<J: JournalId, S: Sender<Request<J>, Reply<J>>, W: Work>(
     requires way { IsSender J.bounds S.fits S.sends S.keys_between }
     requires open { is_declared session.state ≡ false }
     requires empty { session.state.buffer ≡ [] }
+    requires drawn { HasSeenStart session }
     ensures session { MayHaveDeclared session result.0 }
     ensures resolver { SeatGoesOn resolver result.1 }
     ensures works { Works W.does J.bounds terms.now session result.0 result.2 result.3 work.old work.new }

@@ -3,7 +3,7 @@
 
 mod attempt;
 mod completion;
-mod ending;
+mod ended;
 mod failure;
 mod met_lock;
 mod range;
@@ -13,11 +13,11 @@ mod stops;
 mod tx;
 mod updates;
 
-pub use ending::{Ended, Seats, Unended};
+pub use ended::{Ended, Seats, Unended};
 pub use failure::Failure;
 pub use met_lock::resolve_met;
 pub use range::{add_last, add_rows, split_page};
 pub use rows::{KeyRange, greatest};
-pub use stops::Stop;
+pub use stops::{Stop, stop_by};
 pub use tx::Tx;
 pub use updates::{Work, update};

@@ -1,6 +1,8 @@
 //! A lock that a session met, resolved for it.
-ghost use Rattle.std.specs.Prelude.{◌≡◌};
+ghost use Rattle.std.specs.Prelude.{◌≡◌, IfErr};
+ghost use Rattle.tx_types.specs.declared.fault.Fault.TheVariants as fault;
 ghost use Rattle.tx_journal.specs.Senders.{IsSender};
+ghost use Rattle.tx_simple.specs.declared.stops.Stop.TheVariants as stop;
 ghost use Rattle.tx_simple.specs.MetLock.{Resolves};
 ghost use Rattle.tx_simple.specs.Updates.{Follows, SeatGoesOn};
 
@@ -34,6 +36,7 @@ pub fn resolve_met<J: JournalId, S: Sender<Request<J>, Reply<J>>>(
 fn learn<J: JournalId>(session: &mut Session<J>, found: Resolved<J>) -> Result<(), Fault>
     ensures session { Follows session.old session.new }
     ensures buffer { session.new.state.buffer ≡ session.old.state.buffer }
+    ensures err { IfErr result (λ e. e ≡ fault.OutOfMemory) }
 {
     session.learn(found)
 }
@@ -49,6 +52,7 @@ pub(crate) fn clear_met<J: JournalId, S: Sender<Request<J>, Reply<J>>>(
     ensures session { Follows session.old session.new }
     ensures buffer { session.new.state.buffer ≡ session.old.state.buffer }
     ensures resolver { SeatGoesOn resolver.old resolver.new }
+    ensures err { IfErr result (λ s. s ≡ stop.Refused fault.OutOfMemory) }
 {
     let Some(met) = session.met()? else {
         return Ok(Status::Waiting(WaitCause::NotFound));

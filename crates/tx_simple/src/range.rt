@@ -5,6 +5,7 @@ ghost use Rattle.tx_core.specs.Histories.{Begins};
 ghost use Rattle.tx_laws.specs.Rows.{AreRowsOf};
 ghost use Rattle.tx_simple.specs.Ranges.{IsSplit, is_in_range, row_of};
 ghost use Rattle.tx_simple.specs.Reads.{Beneath, SeesOn};
+ghost use Rattle.tx_simple.specs.Stops.{IsReadStop};
 
 use crate::rows::{KeyRange, greatest};
 use crate::session::Begun;
@@ -58,6 +59,7 @@ impl<'a, J: JournalId, S: Sender<Request<J>, Reply<J>>, B: Begun> Lent<'a, J, S,
         ensures more { Begins self.old.running.seat.events self.new.running.seat.events }
         ensures finds { IfOk result (λ rows. AreRowsOf (is_between from.now to.now)
             (SeesOn J.bounds self.new.running.seat.events B.session.state.start) rows.items) }
+        ensures err { IfErr result IsReadStop }
     {
         let mut rows = Vec::new(self.running.alloc());
         let mut next = from.clone()?;
@@ -80,6 +82,7 @@ impl<'a, J: JournalId, S: Sender<Request<J>, Reply<J>>, B: Begun> Lent<'a, J, S,
         ensures more { Begins self.old.running.seat.events self.new.running.seat.events }
         ensures finds { IfOk result (λ rows. AreRowsOf (is_in_range (Some from.now) (Some to.now))
             (Beneath self.old.running.state.buffer self.new.running.seat.events B.session.state.start) rows.items) }
+        ensures err { IfErr result IsReadStop }
     {
         let rows = self.pages(from, to)?;
         self.running.know_run();
@@ -92,6 +95,7 @@ impl<'a, J: JournalId, S: Sender<Request<J>, Reply<J>>, B: Begun> Lent<'a, J, S,
         ensures more { Begins self.old.running.seat.events self.new.running.seat.events }
         ensures finds { IfOk result (λ rows. AreRowsOf (is_in_range (Some from.now) None)
             (Beneath self.old.running.state.buffer self.new.running.seat.events B.session.state.start) rows.items) }
+        ensures err { IfErr result IsReadStop }
     {
         let top = greatest(self.running.alloc())?;
         let mut rows = self.pages(from, &top)?;
@@ -110,6 +114,7 @@ impl<'a, J: JournalId, S: Sender<Request<J>, Reply<J>>, B: Begun> Lent<'a, J, S,
         ensures more { Begins self.old.running.seat.events self.new.running.seat.events }
         ensures finds { IfOk result (λ rows. AreRowsOf (is_in_range (Some range.now.from) range.now.to)
             (Beneath self.old.running.state.buffer self.new.running.seat.events B.session.state.start) rows.items) }
+        ensures err { IfErr result IsReadStop }
     {
         match &range.to {
             Some(to) => self.rows_upto(&range.from, to),

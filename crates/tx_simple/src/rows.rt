@@ -33,7 +33,8 @@ fn is_first_of(rows: &[KeyValue], key: &Key) -> bool
 
 // Gives a key this value, or none.
 fn set_value(rows: &mut Vec<KeyValue>, key: Key, value: Option<Value>) -> Result<(), Fault>
-    ensures { OnOk result (rows.new.items ≡ with_value rows.old.items key value) }
+    ensures ok { OnOk result (rows.new.items ≡ with_value rows.old.items key value) }
+    ensures err { IfErr result (λ e. e ≡ Fault.OutOfMemory) }
 {
     let at = place_of(rows.as_slice(), &key);
     if is_first_of(&rows.as_slice()[at..], &key) {
@@ -54,7 +55,8 @@ fn is_entered(changes: &[Change], key: &Key) -> bool
 
 // The value that a change leaves, if it leaves one.
 fn value_of(change: &Change) -> Result<Option<Value>, Fault>
-    ensures { IfOk result (λ value. value ≡ value_of change.now.mutation) }
+    ensures ok { IfOk result (λ value. value ≡ value_of change.now.mutation) }
+    ensures err { IfErr result (λ e. e ≡ Fault.OutOfMemory) }
 {
     match &change.mutation {
         Mutation::Put(value) | Mutation::Insert(value) => Ok(Some(value.clone()?)),
@@ -122,8 +124,9 @@ pub(crate) fn enter_over(
     requires rising { IsRising rows.old.items }
     requires within { (k : Name) (v : Given) → value_in rows.old.items k ≡ Some v
         → IsTrue (is_in_range (Some range.now.from) range.now.to k) }
-    ensures { OnOk result (AreEntered (is_in_range (Some range.now.from) range.now.to) changes.now rows.old.items
-        rows.new.items) }
+    ensures entered { OnOk result (AreEntered (is_in_range (Some range.now.from) range.now.to) changes.now
+        rows.old.items rows.new.items) }
+    ensures err { IfErr result (λ e. e ≡ Fault.OutOfMemory) }
 {
     for (i, change) in changes.iter().enumerate() {
         if change.mutation.is_visible()

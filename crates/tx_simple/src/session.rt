@@ -8,7 +8,8 @@ ghost use Rattle.tx_core.specs.Histories.{Begins};
 ghost use Rattle.tx_core.specs.Worlds.{IsWorldRun};
 ghost use Rattle.tx_transaction.specs.Buffers.{changes_of};
 ghost use Rattle.tx_journal.specs.Senders.{IsSender};
-ghost use Rattle.tx_simple.specs.Reads.{AnswersRead, AnswersScan, TellsPage};
+ghost use Rattle.tx_simple.specs.declared.stops.Stop.TheVariants as stop;
+ghost use Rattle.tx_simple.specs.Reads.{AnswersRead, AnswersScan, TellsPage, IsGetAnswer, IsScanAnswer, HasSeenStart};
 ghost use Rattle.tx_simple.specs.Updates.{Follows, SeatGoesOn};
 
 use crate::met_lock::clear_met;
@@ -147,6 +148,7 @@ impl<'a, J: JournalId, S: Sender<Request<J>, Reply<J>>, B: Begun> Running<'a, J,
         ensures more { Begins self.old.seat.events self.new.seat.events }
         ensures reads { IfOk result (AnswersRead (buffered self.old.state.buffer key.now) self.new.seat.events
             B.session.state.start key.now) }
+        ensures may { HasSeenStart B.session → IfOk result IsGetAnswer }
     {
         self.session.get(key, self.sender)
     }
@@ -159,6 +161,7 @@ impl<'a, J: JournalId, S: Sender<Request<J>, Reply<J>>, B: Begun> Running<'a, J,
             (AnswersScan self.new.seat.events B.session.state.start from.now to.now limit) }
         ensures tells { IfOk result
             (TellsPage J.bounds self.new.seat.events B.session.state.start from.now to.now limit) }
+        ensures may { HasSeenStart B.session → IfOk result IsScanAnswer }
     {
         // For proofs: the keys between the regions rise.
         let _bounds = self.sender.bounds();
@@ -170,7 +173,8 @@ impl<'a, J: JournalId, S: Sender<Request<J>, Reply<J>>, B: Begun> Running<'a, J,
 
     /// What was entered, in the order in which its keys were first entered.
     pub(crate) fn entered(&self) -> Result<Changes, Fault>
-        ensures { IfOk result (λ changes. changes ≡ changes_of self.now.state.buffer) }
+        ensures ok { IfOk result (λ changes. changes ≡ changes_of self.now.state.buffer) }
+        ensures err { IfErr result (λ e. e ≡ fault.OutOfMemory) }
     {
         let terms = Terms {
             mode: Mode::Async,
@@ -192,6 +196,7 @@ impl<'a, J: JournalId, S: Sender<Request<J>, Reply<J>>, B: Begun> Running<'a, J,
     pub(crate) fn clear(&mut self) -> Result<Status, Stop>
         ensures same { self.new.state.buffer ≡ self.old.state.buffer }
         ensures more { Begins self.old.seat.events self.new.seat.events }
+        ensures err { IfErr result (λ s. s ≡ stop.Refused fault.OutOfMemory) }
     {
         clear_met(&mut self.session, &mut self.resolver, self.sender)
     }
@@ -230,6 +235,7 @@ impl<'a, J: JournalId, S: Sender<Request<J>, Reply<J>>, B: Begun> Running<'a, J,
         ensures ok { OnOk result (self.new.state.buffer
             ≡ touched self.old.state.buffer key (put_over (buffered self.old.state.buffer key) value)) }
         ensures same { OnErr result (self.new.state.buffer ≡ self.old.state.buffer) }
+        ensures seat { self.new.seat ≡ self.old.seat }
         ensures err { IfErr result (λ e. ((e ≡ fault.OutOfMemory) × (is_full self.old.state.buffer key ≡ false))
             ⊎ ((e ≡ fault.TooManyKeys) × (is_full self.old.state.buffer key ≡ true))) }
     {
@@ -241,6 +247,7 @@ impl<'a, J: JournalId, S: Sender<Request<J>, Reply<J>>, B: Begun> Running<'a, J,
         requires { is_declared B.session.state ≡ false }
         ensures ok { OnOk result (inserted self.old.state.buffer key value ≡ Some self.new.state.buffer) }
         ensures same { OnErr result (self.new.state.buffer ≡ self.old.state.buffer) }
+        ensures seat { self.new.seat ≡ self.old.seat }
         ensures err { IfErr result (λ e. ((e ≡ fault.OutOfMemory) × (is_full self.old.state.buffer key ≡ false))
             ⊎ ((e ≡ fault.TooManyKeys) × (is_full self.old.state.buffer key ≡ true))
             ⊎ ((e ≡ fault.AlreadyExists) × (inserted self.old.state.buffer key value ≡ None))) }
@@ -253,6 +260,7 @@ impl<'a, J: JournalId, S: Sender<Request<J>, Reply<J>>, B: Begun> Running<'a, J,
         requires { is_declared B.session.state ≡ false }
         ensures ok { OnOk result (self.new.state.buffer ≡ touched self.old.state.buffer key mutation.Delete) }
         ensures same { OnErr result (self.new.state.buffer ≡ self.old.state.buffer) }
+        ensures seat { self.new.seat ≡ self.old.seat }
         ensures err { IfErr result (λ e. ((e ≡ fault.OutOfMemory) × (is_full self.old.state.buffer key ≡ false))
             ⊎ ((e ≡ fault.TooManyKeys) × (is_full self.old.state.buffer key ≡ true))) }
     {
@@ -264,6 +272,7 @@ impl<'a, J: JournalId, S: Sender<Request<J>, Reply<J>>, B: Begun> Running<'a, J,
         requires { is_declared B.session.state ≡ false }
         ensures ok { OnOk result (self.new.state.buffer ≡ locked self.old.state.buffer key) }
         ensures same { OnErr result (self.new.state.buffer ≡ self.old.state.buffer) }
+        ensures seat { self.new.seat ≡ self.old.seat }
         ensures err { IfErr result (λ e. ((e ≡ fault.OutOfMemory) × (is_full self.old.state.buffer key ≡ false))
             ⊎ ((e ≡ fault.TooManyKeys) × (is_full self.old.state.buffer key ≡ true))) }
     {

@@ -19,7 +19,8 @@ pub enum Stop {
     BelowSafePoint,
     /// No reply came.
     Lost,
-    /// E11, E12, E15: the seat's ticks are spent, memory was refused, or there are too many keys.
+    /// E8, E11, E12, E15: a timestamp was not drawn yet, the seat's ticks are spent, memory was
+    /// refused, or there are too many keys.
     Refused(Fault),
 }
 
@@ -63,14 +64,16 @@ impl From<Miss> for Stop {
     }
 }
 
-/// What a refusal comes to.
-pub(crate) fn stop_by(answer: Answer) -> Stop
+/// What a refusal comes to: a lock in the way, a value of an inserted key, the safe point, or a
+/// timestamp that was not drawn yet; any other is a conflict.
+pub fn stop_by(answer: Answer) -> Stop
     ensures { result ≡ stop_of_refusal answer }
 {
     match answer {
         Answer::KeyIsLocked(_) => Stop::Waits(WaitCause::Live),
         Answer::AlreadyExists => Stop::AlreadyExists,
         Answer::BelowSafePoint { .. } => Stop::BelowSafePoint,
+        Answer::FutureTimestamp { last } => Stop::Refused(Fault::FutureTimestamp { last }),
         _ => Stop::Conflict,
     }
 }

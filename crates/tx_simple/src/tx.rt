@@ -1,5 +1,5 @@
 //! What an update reads and writes within its transaction.
-ghost use Rattle.std.specs.Prelude.{◌≡◌, ℕ, false, Option, Ok, IfOk, IfSome};
+ghost use Rattle.std.specs.Prelude.{◌≡◌, ℕ, false, Option, Ok, IfOk, IfErr, IfSome};
 ghost use Rattle.tx_types.specs.declared.key.Key.{Key};
 ghost use Rattle.tx_types.specs.declared.mutation.Mutation.{Mutation};
 ghost use Rattle.tx_plan.specs.declared.answer.Answer.TheVariants.{Rows};
@@ -8,7 +8,8 @@ ghost use Rattle.tx_core.specs.Histories.{History, Begins};
 ghost use Rattle.tx_transaction.specs.Buffers.{buffered};
 ghost use Rattle.tx_transaction.specs.Sessions.{is_declared};
 ghost use Rattle.tx_laws.specs.Rows.{AreRowsOf};
-ghost use Rattle.tx_simple.specs.Reads.{Finds, FindsRows, AnswersRead, AnswersScan, SeesOn, TellsPage};
+ghost use Rattle.tx_simple.specs.Reads.{Finds, FindsRows, AnswersRead, AnswersScan, SeesOn, TellsPage, IsGetAnswer, IsScanAnswer, HasSeenStart};
+ghost use Rattle.tx_simple.specs.Stops.{IsReadStop};
 
 use crate::rows::{KeyRange, enter_over};
 use crate::session::{Begun, Running};
@@ -34,11 +35,11 @@ use tx_types::{Key, KeyValues, Ts, Value};
 pub trait Tx {
     ghost use Rattle.std.specs.Prelude.{◌≡◌, ◌⊎◌, ℕ, OnOk, OnErr, IfOk, IfErr, Some, None};
     ghost use Rattle.tx_types.specs.declared.mutation.Mutation.TheVariants as mutation;
-    ghost use Rattle.tx_core.specs.Histories.{History};
+    ghost use Rattle.tx_core.specs.Histories.{History, Begins};
     ghost use Rattle.tx_transaction.specs.Buffers.{Entries, touched, put_over, inserted, locked, buffered, is_full};
     ghost use Rattle.tx_simple.specs.declared.stops.Stop.TheVariants as stop;
     ghost use Rattle.tx_simple.specs.Reads.{Finds, FindsRows, FindsRange};
-    ghost use Rattle.tx_simple.specs.Stops.{IsEntryStop};
+    ghost use Rattle.tx_simple.specs.Stops.{IsReadStop, IsEntryStop};
 
     /// What is entered so far.
     ghost buffer: { Self → Entries };
@@ -57,27 +58,34 @@ pub trait Tx {
         ensures { result ≡ begins self.now };
 
     /// The value of a key at the start, or what was entered of it: what the one-step machine sees.
-    /// `Waits` where a lock stands in the way whose transaction lives or cannot be asked,
-    /// `BelowSafePoint` where the start lies below the safe point, `Lost` where no reply came,
-    /// `Refused` for want of memory.
+    /// It stops by `Waits` where a lock stands in the way whose transaction lives or cannot be
+    /// asked, `BelowSafePoint` where the start lies below the safe point, `Lost` where no reply
+    /// came, `Refused` for want of memory, and by nothing else: never by a conflict.
     fn get(&mut self, key: &Key) -> Result<Option<Value>, Stop>
         ensures same { (buffer self.new ≡ buffer self.old) × (begins self.new ≡ begins self.old) }
+        ensures more { Begins (seen self.old) (seen self.new) }
         ensures finds { IfOk result
-            (λ found. Finds (buffered (buffer self.old) key.now) (seen self.new) (begins self.old) key.now found) };
+            (λ found. Finds (buffered (buffer self.old) key.now) (seen self.new) (begins self.old) key.now found) }
+        ensures err { IfErr result IsReadStop };
 
     /// The first `limit` keys with a value at the start, from `from` up to but not including `to`;
-    /// what was entered is not looked at. It stops as `get` does.
+    /// what was entered is not looked at. It stops only by what `get` does.
     fn scan(&mut self, from: &Key, to: &Key, limit: u32) -> Result<KeyValues, Stop>
         ensures same { (buffer self.new ≡ buffer self.old) × (begins self.new ≡ begins self.old) }
-        ensures finds { IfOk result (λ rows. FindsRows (seen self.new) (begins self.old) from.now to.now limit rows) };
+        ensures more { Begins (seen self.old) (seen self.new) }
+        ensures finds { IfOk result (λ rows. FindsRows (seen self.new) (begins self.old) from.now to.now limit rows) }
+        ensures err { IfErr result IsReadStop };
 
     /// The rows of a range, of any number, from a key, or from the least, and up to but not
     /// including another, or to the greatest: each as `get` finds it, so that what was entered
-    /// lies over what is seen at the start. It asks page by page, and stops as `get` does.
+    /// lies over what is seen at the start. It asks page by page, and stops only by what `get`
+    /// does.
     fn range(&mut self, from: Option<Key>, to: Option<Key>) -> Result<KeyValues, Stop>
         ensures same { (buffer self.new ≡ buffer self.old) × (begins self.new ≡ begins self.old) }
+        ensures more { Begins (seen self.old) (seen self.new) }
         ensures finds { IfOk result
-            (λ rows. FindsRange (buffer self.old) (seen self.new) (begins self.old) from to rows) };
+            (λ rows. FindsRange (buffer self.old) (seen self.new) (begins self.old) from to rows) }
+        ensures err { IfErr result IsReadStop };
 
     /// Enters a put. `Refused` for more than 1,024 keys, or for want of memory: nothing is entered
     /// then.
@@ -85,6 +93,7 @@ pub trait Tx {
         ensures ok { OnOk result (buffer self.new
             ≡ touched (buffer self.old) key (put_over (buffered (buffer self.old) key) value)) }
         ensures same { OnErr result (buffer self.new ≡ buffer self.old) }
+        ensures seen { seen self.new ≡ seen self.old }
         ensures err { IfErr result (IsEntryStop (is_full (buffer self.old) key)) }
         ensures start { begins self.new ≡ begins self.old };
 
@@ -94,6 +103,7 @@ pub trait Tx {
     fn insert(&mut self, key: Key, value: Value) -> Result<(), Stop>
         ensures ok { OnOk result (inserted (buffer self.old) key value ≡ Some (buffer self.new)) }
         ensures same { OnErr result (buffer self.new ≡ buffer self.old) }
+        ensures seen { seen self.new ≡ seen self.old }
         ensures err { IfErr result (λ s. IsEntryStop (is_full (buffer self.old) key) s
             ⊎ ((s ≡ stop.AlreadyExists) × (inserted (buffer self.old) key value ≡ None))) }
         ensures start { begins self.new ≡ begins self.old };
@@ -102,6 +112,7 @@ pub trait Tx {
     fn delete(&mut self, key: Key) -> Result<(), Stop>
         ensures ok { OnOk result (buffer self.new ≡ touched (buffer self.old) key mutation.Delete) }
         ensures same { OnErr result (buffer self.new ≡ buffer self.old) }
+        ensures seen { seen self.new ≡ seen self.old }
         ensures err { IfErr result (IsEntryStop (is_full (buffer self.old) key)) }
         ensures start { begins self.new ≡ begins self.old };
 
@@ -110,6 +121,7 @@ pub trait Tx {
     fn lock(&mut self, key: Key) -> Result<(), Stop>
         ensures ok { OnOk result (buffer self.new ≡ locked (buffer self.old) key) }
         ensures same { OnErr result (buffer self.new ≡ buffer self.old) }
+        ensures seen { seen self.new ≡ seen self.old }
         ensures err { IfErr result (IsEntryStop (is_full (buffer self.old) key)) }
         ensures start { begins self.new ≡ begins self.old };
 }
@@ -119,12 +131,14 @@ pub trait Tx {
 pub(crate) struct Lent<'a, J: JournalId, S: Sender<Request<J>, Reply<J>>, B: Begun> {
     pub(crate) running: Running<'a, J, S, B>,
     ghost open: { is_declared B.session.state ≡ false },
+    ghost drawn: { HasSeenStart B.session },
 }
 
 // The value that a read of a key found.
 fn value_in(answer: Answer) -> Result<Option<Value>, Stop>
-    ensures { IfOk result (λ found. (entered : Option Mutation) (h : History) (start : ℕ) (key : Key)
+    ensures finds { IfOk result (λ found. (entered : Option Mutation) (h : History) (start : ℕ) (key : Key)
         → AnswersRead entered h start key answer → Finds entered h start key found) }
+    ensures err { IfErr result (λ s. IsGetAnswer answer → IsReadStop s) }
 {
     match answer {
         Answer::Found(value) => Ok(Some(value)),
@@ -135,7 +149,8 @@ fn value_in(answer: Answer) -> Result<Option<Value>, Stop>
 
 // The rows that a scan found.
 fn rows_in(answer: Answer) -> Result<KeyValues, Stop>
-    ensures { IfOk result (λ rows. answer ≡ Rows rows) }
+    ensures rows { IfOk result (λ rows. answer ≡ Rows rows) }
+    ensures err { IfErr result (λ s. IsScanAnswer answer → IsReadStop s) }
 {
     match answer {
         Answer::Rows(rows) => Ok(rows),
@@ -146,7 +161,8 @@ fn rows_in(answer: Answer) -> Result<KeyValues, Stop>
 impl<'a, J: JournalId, S: Sender<Request<J>, Reply<J>>, B: Begun> Lent<'a, J, S, B> {
     /// Lends what sets out here.
     pub(crate) fn new(running: Running<'a, J, S, B>) -> Lent<'a, J, S, B>
-        requires { is_declared B.session.state ≡ false }
+        requires open { is_declared B.session.state ≡ false }
+        requires drawn { HasSeenStart B.session }
         ensures { result.running ≡ running.entry }
     {
         Lent { running }
@@ -166,6 +182,7 @@ impl<'a, J: JournalId, S: Sender<Request<J>, Reply<J>>, B: Begun> Lent<'a, J, S,
         ensures more { Begins self.old.running.seat.events self.new.running.seat.events }
         ensures answers { IfOk result
             (λ found. IfSome found (λ a. (response ≡ Ok a) × (self.new.running ≡ self.old.running))) }
+        ensures err { IfErr result IsReadStop }
     {
         match response? {
             Answer::KeyIsLocked(_) => match self.running.clear()? {
@@ -182,6 +199,8 @@ impl<'a, J: JournalId, S: Sender<Request<J>, Reply<J>>, B: Begun> Lent<'a, J, S,
         ensures more { Begins self.old.running.seat.events self.new.running.seat.events }
         ensures reads { IfOk result (λ found. IfSome found (AnswersRead (buffered self.old.running.state.buffer key.now)
             self.new.running.seat.events B.session.state.start key.now)) }
+        ensures may { IfOk result (λ found. IfSome found IsGetAnswer) }
+        ensures err { IfErr result IsReadStop }
     {
         let response = self.running.get(key);
         self.passed(response)
@@ -195,6 +214,8 @@ impl<'a, J: JournalId, S: Sender<Request<J>, Reply<J>>, B: Begun> Lent<'a, J, S,
             (AnswersScan self.new.running.seat.events B.session.state.start from.now to.now limit)) }
         ensures tells { IfOk result (λ found. IfSome found
             (TellsPage J.bounds self.new.running.seat.events B.session.state.start from.now to.now limit)) }
+        ensures may { IfOk result (λ found. IfSome found IsScanAnswer) }
+        ensures err { IfErr result IsReadStop }
     {
         let response = self.running.scan(from, to, limit);
         self.passed(response)
@@ -206,6 +227,7 @@ impl<'a, J: JournalId, S: Sender<Request<J>, Reply<J>>, B: Begun> Lent<'a, J, S,
         ensures more { Begins self.old.running.seat.events self.new.running.seat.events }
         ensures finds { IfOk result (λ found. Finds (buffered self.old.running.state.buffer key.now)
             self.new.running.seat.events B.session.state.start key.now found) }
+        ensures err { IfErr result IsReadStop }
     {
         for _ in 0..MAX_SCAN_ROWS {
             if let Some(answer) = self.look(key)? {
@@ -223,6 +245,7 @@ impl<'a, J: JournalId, S: Sender<Request<J>, Reply<J>>, B: Begun> Lent<'a, J, S,
             (λ rows. FindsRows self.new.running.seat.events B.session.state.start from.now to.now limit rows) }
         ensures tells { IfOk result (λ rows. AreRowsOf (is_scanned from.now to.now limit rows)
             (SeesOn J.bounds self.new.running.seat.events B.session.state.start) rows) }
+        ensures err { IfErr result IsReadStop }
     {
         for _ in 0..MAX_SCAN_ROWS {
             if let Some(answer) = self.look_over(from, to, limit)? {

@@ -4,7 +4,7 @@ ghost use Rattle.tx_journal.specs.Senders.{IsSender};
 ghost use Rattle.tx_simple.specs.Endings.{EndsOver, IsUnended};
 
 use crate::attempt::try_once;
-use crate::ending::{Ended, Seats, Unended};
+use crate::ended::{Ended, Seats, Unended};
 use crate::failure::Failure;
 use crate::tx::Tx;
 use std::alloc::Global;

@@ -46,8 +46,9 @@ impl<'p, 'a> Line<'p, 'a> {
         line: &'a [u8],
         parts: &'p mut Parts<'a>,
     ) -> Result<Result<Line<'p, 'a>, Cause>, Broken>
-        ensures { IfOk result (λ found. MatchResult found (λ l. data_said number line.now
+        ensures ok { IfOk result (λ found. MatchResult found (λ l. data_said number line.now
             ≡ Ok (data_of l)) (λ cause. data_said number line.now ≡ Err cause)) }
+        ensures err { IfErr result (λ why. why ≡ Broken.Memory) }
     {
         if line.len() > MAX_LINE_BYTES {
             return Ok(Err(Cause::Long));

@@ -1,4 +1,4 @@
 -- Seats and families, one after another.
-pub mod Making
+pub mod DealtSeats
 -- What a reply tells of the request that it answers.
-pub mod Answering
+pub mod Replies

@@ -1,6 +1,6 @@
 //! A script that is typed at a terminal: a line that is a fault is told, and the next one is read
 //! in its place.
-ghost use Rattle.std.specs.Prelude.{◌≡◌, ◌+◌, ℕ, List, All, vec_len, length};
+ghost use Rattle.std.specs.Prelude.{◌≡◌, ◌+◌, All, vec_len, length};
 ghost use Rattle.tx_types.specs.declared.limits.TheConstants as limits;
 ghost use Rattle.tx_cells.specs.Contents.{nothing_held};
 ghost use Rattle.tx_script.specs.Players.{IsPlayer};
@@ -149,8 +149,8 @@ impl<'a, I: BufRead, O: Write> Terminal<'a, I, O> {
         Ok(Some(typed))
     }
 
-    // Plays what is typed from the line on that was typed, which may say the regions: what ended it,
-    // or None where that line is a fault.
+    // Plays what is typed from the line on that was typed, which may say the regions: what ended
+    // it, or None where that line is a fault.
     fn begin<F: Fresh>(&mut self) -> Result<Option<Typed>, Broken> {
         let alloc = self.host.alloc();
         let bounds = bounds_in(alloc, self.line.as_slice())?;
@@ -179,10 +179,11 @@ impl<'a, I: BufRead, O: Write> Terminal<'a, I, O> {
     }
 }
 
-/// Plays the script that is typed, to the end of the input, over families of this kind: each line is
-/// replied to as `simulate` does. One that is a fault is told, on standard error why, and the next
-/// one is read in its place, with its number; it leaves all as it was. Empty lines are passed over.
-/// `help`, `help WORD`, `:keys`, `:sessions`, `:steps` and `:script` are answered between two lines.
+/// Plays the script that is typed, to the end of the input, over families of this kind: each line
+/// is replied to as `simulate` does. One that is a fault is told, on standard error why, and the
+/// next one is read in its place, with its number; it leaves all as it was. Empty lines are passed
+/// over. `help`, `help WORD`, `:keys`, `:sessions`, `:steps` and `:script` are answered between two
+/// lines.
 ///
 /// Well where the input ended, whatever was a fault; `Faulted` after a line that is too long, of
 /// which what is left is not read. `Input` where a read failed, `Output` where a write or the flush

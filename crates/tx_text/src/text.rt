@@ -92,8 +92,8 @@ fn is_simple_from(bytes: &[u8], from: usize) -> bool
     true
 }
 
-// Whether the bytes are ASCII that stands for itself in a string.
-fn is_simple(bytes: &[u8]) -> bool
+/// Whether the bytes are ASCII that stands for itself in a string.
+pub(crate) fn is_simple(bytes: &[u8]) -> bool
     ensures same { IsTrue result → escape bytes.now ≡ bytes.now }
     ensures ascii { IsTrue result → IsAscii bytes.now }
 {

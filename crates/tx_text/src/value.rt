@@ -1,5 +1,5 @@
 //! A line as JSON, by `serde_json`.
-ghost use Rattle.std.specs.Prelude.{◌≡◌, IfOk, MatchResult, Some, None};
+ghost use Rattle.std.specs.Prelude.{◌≡◌, IfOk, IfErr, MatchResult, Some, None};
 ghost use Rattle.serde_json.specs.View.{view};
 ghost use Rattle.tx_text.specs.Parts.{json_of};
 
@@ -14,8 +14,9 @@ use tx_types::Cause;
 /// `Memory` where a growth was refused.
 #[inline(never)]
 pub fn value_of(alloc: Global, line: &[u8]) -> Result<Result<Value, Cause>, Broken>
-    ensures { IfOk result (λ found. MatchResult found (λ value. json_of line.now ≡ Some (view value))
+    ensures ok { IfOk result (λ found. MatchResult found (λ value. json_of line.now ≡ Some (view value))
         (λ cause. (cause ≡ Cause.Json) × (json_of line.now ≡ None))) }
+    ensures err { IfErr result (λ why. why ≡ Broken.Memory) }
 {
     match Value::from_slice(alloc, line) {
         Ok(value) => Ok(Ok(value)),

@@ -3,22 +3,22 @@ pub mod KeySets
 -- The greatest minimum of a set, and when all of its keys are accepted async.
 pub mod Minimums
 -- What an accepted key changes of what a transaction waits for.
-pub mod Waiting
+pub mod Waits
 -- What an answer does is done to the transaction that its request names.
 pub mod Effects
 -- A trace goes on with a request that a region took.
-pub mod Answering
+pub mod TakenRequests
 -- A trace goes on with a prewrite that was accepted.
-pub mod Locking
+pub mod Prewrites
 -- A key that is checked.
-pub mod Marking
+pub mod CheckedKeys
 -- A trace goes on with the check of an insert.
-pub mod Inserting
+pub mod InsertChecks
 -- A trace goes on with a declaration.
-pub mod Declaring
+pub mod Declarations
 -- A trace goes on with each request.
 pub mod Requests
 -- Steps that are added at the end, and a map that has one more.
 pub mod Steps
 -- A trace is of the histories that its log is of.
-pub mod Noting
+pub mod Histories

@@ -35,9 +35,9 @@ use Rattle.tx_core.proofs.runs.Consequences.{decided_declared}
 use Rattle.tx_core.proofs.requests.Good.{took}
 use Rattle.tx_trace.specs.declared.log.TraceLog.{TraceLog}
 use Rattle.tx_trace.specs.Logs.{steps_of, checked_in, IsLogOf, Tracks, LogGoesOn, AddsSteps, TellsFate, Prewrites}
-use Rattle.tx_trace.proofs.Answering.{reads, tells}
+use Rattle.tx_trace.proofs.TakenRequests.{reads, tells}
 use Rattle.tx_trace.proofs.Effects.{none_put}
-use Rattle.tx_trace.proofs.Inserting.{accepts}
+use Rattle.tx_trace.proofs.InsertChecks.{accepts}
 
 -- what follows of a fact that holds where a call went well
 pub on_ok : {T E : Type 0} (r : Result T E) (A B : Type 0) → (A → B) → OnOk r A → OnOk r B

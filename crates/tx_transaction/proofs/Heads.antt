@@ -5,6 +5,7 @@ use Rattle.tx_transaction.specs.declared.state.Phase.{Phase}
 use Rattle.tx_transaction.specs.declared.state.Progress.{Progress}
 use Rattle.tx_transaction.specs.Buffers.{Entries, progress_at, with_progress, wants, first_index}
 use Rattle.tx_transaction.proofs.Places.{first_found, place_none}
+use Rattle.tx_transaction.proofs.Parts.{progress_later}
 
 -- the progress of an index that was set, and of another
 elsewhere : (es : Entries) (i k : ℕ) (p : Progress) → (k ≡ i → ⊥)
@@ -35,9 +36,11 @@ settled_before x es n m i p below le before k lt =
 pub settled_past : (x : Phase) (es : Entries) (n m i : ℕ) (p : Progress) → AreSettled x es n → i < length es
     → wants x p ≡ false → (m ≤ n) ⊎ ((n ≡ i) × (m ≤ i + 1)) → AreSettled x (with_progress es i p) m
 settled_past x es n m i p below within done most k lt = elim (cases_lt k i) [
-  | inl less ↦ ap (wants x) (elsewhere es i k p (λ same. absurd (omega (arith, same, less)))) ∙ below k (behind less most)
+  | inl less ↦ ap (wants x) (elsewhere es i k p (λ same. absurd (omega (arith, same, less))))
+      ∙ below k (behind less most)
   | inr no_less ↦ elim (cases_lt i k) [
-    | inl more ↦ ap (wants x) (elsewhere es i k p (λ same. absurd (omega (arith, same, more)))) ∙ below k (beyond more most)
+    | inl more ↦ ap (wants x) (elsewhere es i k p (λ same. absurd (omega (arith, same, more))))
+        ∙ below k (beyond more most)
     | inr no_more ↦ ap (λ j. wants x (progress_at (with_progress es i p) j)) (is no_less no_more)
         ∙ ap (wants x) (there es i p within) ∙ done
   ]
@@ -54,20 +57,12 @@ settled_past x es n m i p below within done most k lt = elim (cases_lt k i) [
     is : i ≤ k → k ≤ i → k ≡ i
     is le ge = omega (arith, le, ge)
 
-progress_behind : (few more : Entries) (k : ℕ) → length few ≤ k
-    → progress_at (few ++ more) k ≡ progress_at more (k - length few)
-progress_behind [] more k le = (let same : k ≡ k - 0 = omega arith in ap (λ j. progress_at more j) same)
-progress_behind (e ∷ es) more zero le = absurd (omega (arith, le))
-progress_behind (e ∷ es) more (suc k) le =
-    let same : k - length es ≡ suc k - length (e ∷ es) = omega arith in
-    progress_behind es more k (omega (arith, le)) ∙ ap (λ j. progress_at more j) same
-
 -- those behind the first few entries
 pub settled_behind : (x : Phase) (few more es : Entries) (n m end : ℕ) → few ++ more ≡ es → n ≡ length few
     → end ≤ n + m → AreSettled x more m → (k : ℕ) → n ≤ k → k < end → wants x (progress_at es k) ≡ false
 settled_behind x few more es n m end is count most below k le lt =
     ap (λ l. wants x (progress_at l k)) (sym is)
-    ∙ ap (wants x) (progress_behind few more k (omega (arith, le, count)))
+    ∙ ap (wants x) (progress_later few more k (omega (arith, le, count)))
     ∙ below (k - length few) (omega (arith, le, lt, most, count))
 
 -- the keys before an index, and from there to another

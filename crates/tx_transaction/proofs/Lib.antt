@@ -1,7 +1,7 @@
 -- The buffer by indexes.
 pub mod Places
 -- Keys that are looked up in a buffer.
-pub mod Finding
+pub mod Lookups
 -- The buffer by indexes: what it declares, and what stands in it.
 pub mod Entries
 -- What is known of a fate stays, and which rollbacks are due.

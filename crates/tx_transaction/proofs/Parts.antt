@@ -8,9 +8,9 @@ use Rattle.tx_types.specs.declared.mutation.Mutation.{Mutation}
 use Rattle.tx_machine.specs.Keys.{IsDistinct}
 use Rattle.tx_transaction.specs.declared.state.BufferEntry.{BufferEntry}
 use Rattle.tx_transaction.specs.declared.state.Progress.{Progress}
-use Rattle.tx_transaction.specs.Buffers.{Entries, changes_of, key_at, mutation_in, buffered, fresh, touched, with_progress}
+use Rattle.tx_transaction.specs.Buffers.{Entries, changes_of, key_at, mutation_in, progress_at, buffered, fresh, touched, with_progress}
 use Rattle.tx_transaction.proofs.Entries.{distinct_touched, changes_with}
-use Rattle.tx_transaction.proofs.Finding.{turned}
+use Rattle.tx_transaction.proofs.Lookups.{turned}
 
 -- the entry of an index
 pub key_of_item : (few : Entries) (i : ℕ) (v : Key × BufferEntry) → i < length few → v ≡ slice_index_or few i v
@@ -122,6 +122,14 @@ progress_behind (e ∷ es) more zero j p is = absurd (omega (arith, is))
 progress_behind (e ∷ es) more (suc i) j p is =
     ap (λ (l : Entries). e ∷ l) (progress_behind es more i j p (omega (arith, is)))
 
+pub progress_later : (few more : Entries) (k : ℕ) → length few ≤ k
+    → progress_at (few ++ more) k ≡ progress_at more (k - length few)
+progress_later [] more k le = (let same : k ≡ k - 0 = omega arith in ap (λ j. progress_at more j) same)
+progress_later (e ∷ es) more zero le = absurd (omega (arith, le))
+progress_later (e ∷ es) more (suc k) le =
+    let same : k - length es ≡ suc k - length (e ∷ es) = omega arith in
+    progress_later es more k (omega (arith, le)) ∙ ap (λ j. progress_at more j) same
+
 pub noted : (es : Entries) (i : ℕ) (v : BufferEntry) (p : Progress)
     → Some v ≡ slice_get (values_of es) i
     → set_value_at es i (record { mutation = v.mutation; progress = p }) ≡ with_progress es i p
@@ -138,6 +146,40 @@ pub progress_more : (few more : Entries) (i n : ℕ) (v : BufferEntry) (p : Prog
 progress_more few more i n v p e le is =
     ap (λ (l : Entries). few ++ l) (noted more (i - n) v p is)
     ∙ progress_behind few more i (i - n) p (omega (arith, e, le))
+
+item_progress : (few more : Entries) (i : ℕ) (v : Key × BufferEntry) → i < length few → v ≡ slice_index_or few i v
+    → v.1.progress ≡ progress_at (few ++ more) i
+item_progress [] more i v lt is = absurd (omega (arith, lt))
+item_progress (e ∷ es) more zero v lt is = ap (λ (w : Key × BufferEntry). w.1.progress) is
+item_progress (e ∷ es) more (suc i) v lt is = item_progress es more i v (omega (arith, lt)) is
+
+value_progress : (es : Entries) (i : ℕ) (v : BufferEntry) → Some v ≡ slice_get (values_of es) i
+    → v.progress ≡ progress_at es i
+value_progress [] i v e = absurd (cc (e))
+value_progress (x ∷ es) zero v e = let same : v ≡ x.1 = cc (e) in ap (λ (w : BufferEntry). w.progress) same
+value_progress (x ∷ es) (suc i) v e = value_progress es i v e
+
+-- the progress of an entry, made of what it was
+pub marked_few : (f : Progress → Progress) (few more es : Entries) (i : ℕ) (v : Key × BufferEntry) (p : Progress)
+    → i < length few → v ≡ slice_index_or few i v → p ≡ f v.1.progress → few ++ more ≡ es
+    → slice_set few i (v.0, record { mutation = v.1.mutation; progress = p }) ++ more ≡ with_progress es i
+    (f (progress_at es i))
+marked_few f few more es i v p lt is made e =
+    progress_few few more i v p lt is
+    ∙ ap (with_progress (few ++ more) i) (made ∙ ap f (item_progress few more i v lt is))
+    ∙ ap (λ l. with_progress l i (f (progress_at l i))) e
+
+pub marked_more : (f : Progress → Progress) (few more es : Entries) (i n : ℕ) (v : BufferEntry) (p : Progress)
+    → n ≡ length few → n ≤ i → Some v ≡ slice_get (values_of more) (i - n) → p ≡ f v.progress → few ++ more ≡ es
+    → few ++ set_value_at more (i - n) (record { mutation = v.mutation; progress = p }) ≡ with_progress es i
+    (f (progress_at es i))
+marked_more f few more es i n v p count le is made e =
+    let at : i - n ≡ i - length few = omega (arith, count) in
+    let was : v.progress ≡ progress_at (few ++ more) i = value_progress more (i - n) v is
+    ∙ ap (progress_at more) at ∙ sym (progress_later few more i (omega (arith, count, le))) in
+    progress_more few more i n v p count le is
+    ∙ ap (with_progress (few ++ more) i) (made ∙ ap f was)
+    ∙ ap (λ l. with_progress l i (f (progress_at l i))) e
 
 -- ---- what the two parts keep
 

@@ -1,5 +1,5 @@
 -- The buffer by indexes.
-use Rattle.std.proofs.Common.{◌++◌, ◌||◌, ◌≤◌, max, take, ◌≡◌, ℕ, ◌+◌, ◌<◌, zero, suc, Bool, true, false, length, List, [], ◌∷◌, Some, None, refl, sym, ap, ◌∙◌, arith}
+use Rattle.std.proofs.Common.{◌++◌, ◌||◌, ◌≤◌, max, take, ◌≡◌, ℕ, ◌+◌, ◌<◌, zero, suc, Bool, true, false, length, List, [], ◌∷◌, Option, Some, None, refl, sym, ap, ◌∙◌, arith}
 use Rattle.std.specs.Prelude.{slice_get}
 use Rattle.tx_types.specs.declared.mutation.Change.{Change}
 use Rattle.tx_types.specs.declared.key.Key.{Key}
@@ -100,6 +100,19 @@ pub promised_stops : (n i : ℕ) (es : Entries) → i < length es → async_mini
 promised_stops n i es lt e =
     promised_step n i es lt ∙ ap (λ o. elim o [ None ↦ None | Some m ↦ promised_from (max n m) (rest (suc i) es) ]) e
 
+-- one key that has none is enough
+promised_lacks : (n : ℕ) (es : Entries) (i : ℕ) → i < length es → async_minimum (progress_at es i).accepted ≡ None
+    → promised_from n es ≡ None
+promised_lacks n [] i lt none = absurd (omega (arith, lt))
+promised_lacks n (e ∷ es) zero lt none = promised_stops n 0 (e ∷ es) lt none
+promised_lacks n (e ∷ es) (suc i) lt none =
+    go (async_minimum e.1.progress.accepted) (λ m. promised_lacks (max n m) es i (omega (arith, lt)) none)
+  where
+    go : (o : Option ℕ) → ((m : ℕ) → promised_from (max n m) es ≡ None)
+        → ◌≡◌ {A = Option ℕ} (elim o [ None ↦ None | Some m ↦ promised_from (max n m) es ]) None
+    go None more = refl
+    go (Some m) more = more m
+
 rest_none : (i : ℕ) (es : Entries) → length es ≤ i → rest i es ≡ []
 rest_none zero [] le = refl
 rest_none (suc i) [] le = refl
@@ -113,6 +126,14 @@ promised_all n i es le = ap (promised_from n) (rest_none i es le)
 pub promised_some : (es : Entries) → 0 < length es → promised es ≡ promised_from 0 es
 promised_some [] lt = absurd (omega arith)
 promised_some (e ∷ es) lt = refl
+
+pub promised_empty : (es : Entries) → length es ≡ 0 → promised es ≡ None
+promised_empty [] e = refl
+promised_empty (x ∷ es) e = absurd (omega (arith, e))
+
+pub promised_none : (es : Entries) (i : ℕ) → i < length es → async_minimum (progress_at es i).accepted ≡ None
+    → promised es ≡ None
+promised_none es i lt none = promised_some es (omega (arith, lt)) ∙ promised_lacks 0 es i lt none
 
 -- ---- the other keys
 

@@ -5,7 +5,7 @@ ghost use Rattle.tx_types.specs.declared.mutation.Mode.TheVariants.{Async};
 ghost use Rattle.tx_transaction.specs.Buffers.{key_at, mutation_in, progress_at, with_progress, first_index, wants, is_full, is_known, not_empty, changes_of, touched, buffered, put_over, insert_over, inserted, has_two_phase_lock, async_minimum, promised, is_zero};
 ghost use Rattle.tx_transaction.specs.Sessions.{others_at, sent_by, marked_by};
 
-use crate::answers::{mark, mark_sent};
+use crate::answers::mark_sent;
 use crate::key_entries::KeyEntries;
 use crate::settled::wants_more;
 use crate::state::{Phase, Progress};
@@ -143,11 +143,11 @@ pub(crate) fn index_of(buffer: &Buffer, phase: Phase) -> Option<usize>
     ensures index { result ≡ first_index phase buffer.now }
     ensures within { IfSome result (λ i. i < length buffer.now) }
 {
-    let (settled, open) = buffer.settled(phase);
-    if let Some(i) = index_between(buffer, phase, 0, settled) {
+    let (from, to) = buffer.settled(phase);
+    if let Some(i) = index_between(buffer, phase, 0, from) {
         return Some(i);
     }
-    index_between(buffer, phase, open, buffer.len())
+    index_between(buffer, phase, to, buffer.len())
 }
 
 /// The key at an index.
@@ -201,9 +201,7 @@ pub(crate) fn note(buffer: &mut Buffer, i: usize, phase: Phase, answer: &Answer)
     ensures { buffer.new ≡ with_progress buffer.old i
         (marked_by phase answer.now (sent_by phase (progress_at buffer.old i))) }
 {
-    let mut progress = progress_of(buffer, i);
-    mark(phase, answer, &mut progress);
-    buffer.set_progress(phase, i, progress);
+    buffer.mark(phase, i, answer);
 }
 
 /// Notes that a request was sent for the key at an index.
@@ -285,15 +283,18 @@ fn later(a: Ts, b: Ts) -> Ts
     if a < b { b } else { a }
 }
 
-/// The greatest minimum, where each key has an async lock.
+/// The greatest minimum, where each key has an async lock. The last key is asked first: it mostly
+/// is the last to have one, so that the others are walked once.
 pub(crate) fn promised(buffer: &Buffer) -> Option<Ts>
     ensures { result ≡ promised buffer.now }
 {
-    if !has_keys(buffer) {
+    let len = buffer.len();
+    if len == 0 {
         return None;
     }
+    async_minimum(progress_of(buffer, len - 1))?;
     let mut greatest = Ts::ZERO;
-    for i in 0..buffer.len() {
+    for i in 0..len {
         let Some(minimum) = async_minimum(progress_of(buffer, i)) else {
             return None;
         };

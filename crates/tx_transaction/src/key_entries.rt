@@ -4,12 +4,15 @@ ghost use Rattle.std.specs.Prelude.{◌≡◌, ◌<◌, ◌≤◌, ◌↔◌, �
 ghost use Rattle.std.specs.Map.Iter.{deref_pair};
 ghost use Rattle.tx_machine.specs.Keys.{IsDistinct};
 ghost use Rattle.tx_transaction.specs.Buffers.{buffered, changes_of, key_at, progress_at, touched, wants, with_progress};
+ghost use Rattle.tx_transaction.specs.Sessions.{marked_by, sent_by};
 
+use crate::answers::mark;
 use crate::settled::Settled;
 use crate::state::{BufferEntry, Phase, Progress};
 use indexmap::IndexMap;
 use std::alloc::Global;
 use std::marker::Model;
+use tx_core::Answer;
 use tx_types::{Fault, Key, Mutation};
 
 /// So many keys are compared in less than one is hashed.
@@ -186,6 +189,21 @@ impl KeyEntries {
         } else if let Some(entry) = self.more.get_index_mut(i - few) {
             self.settled = self.settled.after(phase, i - few, &progress);
             entry.progress = progress;
+        }
+    }
+    /// Marks what an answer says of the key at an index, of which the phase sent a request, where
+    /// its progress is kept.
+    pub(crate) fn mark(&mut self, phase: Phase, i: usize, answer: &Answer)
+        requires { i < length self.old }
+        ensures { self.new ≡ with_progress self.old i
+            (marked_by phase answer.now (sent_by phase (progress_at self.old i))) }
+    {
+        let few = self.few.len();
+        if i < few {
+            mark(phase, answer, &mut self.few[i].1.progress);
+        } else if let Some(entry) = self.more.get_index_mut(i - few) {
+            mark(phase, answer, &mut entry.progress);
+            self.settled = self.settled.after(phase, i - few, &entry.progress);
         }
     }
 }

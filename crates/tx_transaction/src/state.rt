@@ -56,13 +56,13 @@ pub struct Due {
     pub body: Body,
 }
 
-/// What is asked of a key once its prewrite went out.
+/// What is asked of a key, besides its prewrite.
 #[derive(Clone, Copy, Debug, PartialEq, Eq)]
 pub(crate) enum KeyRequest {
     /// Its commit at this timestamp.
     Commit(Ts),
     /// Its rollback.
     Rollback,
-    /// Whether its prewrite left a lock.
+    /// Whether it is locked; where it is not, that it stays so.
     Check,
 }

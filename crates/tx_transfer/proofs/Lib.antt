@@ -1,11 +1,11 @@
 -- Why a transfer moves between its two keys alone.
-pub mod Collecting
+pub mod Collections
 pub mod Digits
-pub mod Operating
-pub mod Resolving
-pub mod Seeding
-pub mod Sending
-pub mod Starting
-pub mod Telling
+pub mod LineActs
+pub mod Resolutions
+pub mod SeedWrites
+pub mod Sends
+pub mod ScanStarts
+pub mod LearntLocks
 pub mod Totals
-pub mod Transferring
+pub mod TransferWrites

@@ -19,7 +19,7 @@ use Rattle.tx_core.specs.Shadow.{shadow}
 use Rattle.tx_core.specs.Worlds.{IsWorldRun}
 use Rattle.tx_core.proofs.runs.CommitOrder.{answered_before, decided_below}
 use Rattle.tx_core.proofs.seats.Beginnings.{begins_all, begins_more, extends_begins}
-use Rattle.tx_core.proofs.seats.Staying.{among_on}
+use Rattle.tx_core.proofs.seats.Stays.{among_on}
 use Rattle.tx_journal.specs.Known.{Known}
 use Rattle.tx_journal.specs.Replies.{Asked}
 use Rattle.tx_journal.specs.Senders.{Reached, IsSender}
@@ -33,11 +33,11 @@ use Rattle.tx_client.specs.Walks.{Walk, asks, grows, ends, Sends, scan_walk}
 use Rattle.tx_laws.specs.Scans.{scan_at}
 use Rattle.tx_laws.proofs.Scanned.{sees_whole}
 use Rattle.tx_transfer.specs.Balances.{balance_of}
-use Rattle.tx_transfer.specs.Resolving.{ResolvesMet}
+use Rattle.tx_transfer.specs.Resolutions.{ResolvesMet}
 use Rattle.tx_laws.specs.Rows.{AreRowsOf}
 use Rattle.tx_transfer.specs.Totals.{least, top, balances_of, IsSumOf, SumsTo, IsTotal, HasReadTo, ReadsOn, IsPage, IsPageOf, AddsPage}
-use Rattle.tx_laws.proofs.Paging.{le_trans, between_both, none_there, short_page, last_within, front_of_page, joined}
-use Rattle.tx_transfer.proofs.Starting.{scan_start, passed_start}
+use Rattle.tx_laws.proofs.Pages.{le_trans, between_both, none_there, short_page, last_within, front_of_page, joined}
+use Rattle.tx_transfer.proofs.ScanStarts.{scan_start, passed_start}
 
 -- ---- what a seat knows
 
@@ -153,11 +153,13 @@ module _ (bounds : List Key) (at : ℕ) where
       more ∙ ap (λ n. n + balances_of ys) is ∙ sym (sum_by-append (λ (row : KeyValue). balance_of row.value) xs ys)
 
   -- a scan has the rows of its range as far as it came
-  page_rows : (table : Rows) (from : Key) (rows : List KeyValue) → SeesRows table (scan_at at from top MAX_SCAN_ROWS rows)
+  page_rows : (table : Rows) (from : Key) (rows : List KeyValue)
+      → SeesRows table (scan_at at from top MAX_SCAN_ROWS rows)
       → AreRowsOf (is_scanned from top MAX_SCAN_ROWS rows) (λ k found. Sees table k at found) rows
   page_rows table from rows sees = record { rising = sees.rising; within = sees.within; each = sees.each }
 
-  module _ (known : History) (from : Key) (page : List KeyValue) (old new : ℕ) (read : HasReadTo bounds known at from old)
+  module _ (known : History) (from : Key) (page : List KeyValue) (old new : ℕ)
+      (read : HasReadTo bounds known at from old)
       (is : IsPage bounds known at from page) where
     -- the last page
     whole_added : length page < MAX_SCAN_ROWS → new ≡ old + balances_of page → SumsTo bounds known at top new
@@ -192,7 +194,8 @@ module _ (bounds : List Key) (at : ℕ) where
             → AreRowsOf (is_scanned from top MAX_SCAN_ROWS (front ++ last ∷ []))
             (λ k found. Sees (table_of (shadow h)).row k at found) (front ++ last ∷ [])
         rows_at h begins run = subst (λ (l : List KeyValue).
-            AreRowsOf (is_scanned from top MAX_SCAN_ROWS l) (λ k found. Sees (table_of (shadow h)).row k at found) l) same
+            AreRowsOf (is_scanned from top MAX_SCAN_ROWS l) (λ k found. Sees (table_of (shadow h)).row k at found) l)
+            same
             (page_rows (table_of (shadow h)).row from page (is.sees h begins run))
 
         inside : IsTrue (key_le from last.key) × IsTrue (key_lt last.key top)
@@ -228,7 +231,8 @@ began_knows bounds old new start b =
     (inr (extends_begins old.seat b.mid b.began.before b.began.extends)) in
     begins_more old.events b.mid new.events drew began
 
-stopped_knows : (bounds : List Key) (old new : Known) (e : Event) → Records bounds old e new → Begins old.events new.events
+stopped_knows : (bounds : List Key) (old new : Known) (e : Event) → Records bounds old e new
+    → Begins old.events new.events
 stopped_knows bounds old new e r = subst (Begins old.events) (sym r.recorded.is)
     (inr (extends_begins old.seat old.events r.recorded.before r.recorded.extends))
 

@@ -14,7 +14,7 @@ use Rattle.tx_steps.specs.Steps.{Text}
 use Rattle.tx_steps.specs.declared.op.Op.{Op}
 use Rattle.tx_steps.specs.declared.op.Op.TheVariants as op
 use Rattle.tx_reply.specs.declared.reply.ScriptReply.TheVariants as reply
-use Rattle.tx_transfer.specs.Resolving.{ResolvesMet}
+use Rattle.tx_transfer.specs.Resolutions.{ResolvesMet}
 
 -- what was found of the lock that a session met, where it met one; where memory was refused on the
 -- way, it waits

@@ -1,12 +1,12 @@
 pub mod Acts
 pub mod Balances
-pub mod Collecting
-pub mod Counting
+pub mod Collections
+pub mod RequestCounts
 pub mod PlainReplies
 pub mod Replies
-pub mod Resolving
+pub mod Resolutions
 pub mod Seeds
-pub mod Sending
+pub mod Sends
 pub mod Slots
 pub mod Sources
 pub mod Totals

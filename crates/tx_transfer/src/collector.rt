@@ -1,6 +1,6 @@
 //! What a run collects while its sessions make their steps.
 ghost use Rattle.std.specs.Prelude.{◌≡◌, ◌==◌, None, unwrap_or, if◌then◌else◌};
-ghost use Rattle.tx_transfer.specs.Collecting.{CollectsBy};
+ghost use Rattle.tx_transfer.specs.Collections.{CollectsBy};
 
 use crate::context::Context;
 use std::sync::Wait;

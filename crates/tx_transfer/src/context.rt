@@ -7,10 +7,10 @@ ghost use Rattle.tx_core.specs.Laws.{WasToldOf};
 ghost use Rattle.tx_journal.specs.Known.{greatest_ts};
 ghost use Rattle.tx_journal.specs.Senders.{IsSender};
 ghost use Rattle.tx_client.specs.Calls.{KeepsSet};
-ghost use Rattle.tx_transfer.specs.Collecting.{Collects};
-ghost use Rattle.tx_transfer.specs.Counting.{with_maybe};
-ghost use Rattle.tx_transfer.specs.Resolving.{HasLooked, Resolves, ResolvesMet};
-ghost use Rattle.tx_transfer.specs.Sending.{RepliesOver};
+ghost use Rattle.tx_transfer.specs.Collections.{Collects};
+ghost use Rattle.tx_transfer.specs.RequestCounts.{with_maybe};
+ghost use Rattle.tx_transfer.specs.Resolutions.{HasLooked, Resolves, ResolvesMet};
+ghost use Rattle.tx_transfer.specs.Sends.{RepliesOver};
 
 use crate::refusals::Refusals;
 use std::alloc::Global;
@@ -91,7 +91,7 @@ impl<J: JournalId, F: Families + Drop, R: Wait + Drop> Sender<Request<J>, Reply<
     for Context<J, F, R> {
     ghost use Rattle.std.specs.Prelude.{◌≡◌};
     ghost use Rattle.tx_store.specs.Stores.{Replies, TakesHeld};
-    ghost use Rattle.tx_transfer.specs.Counting.{with_reached};
+    ghost use Rattle.tx_transfer.specs.RequestCounts.{with_reached};
 
     ghost fits = { TakesHeld J.bounds };
 

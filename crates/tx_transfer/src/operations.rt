@@ -7,7 +7,7 @@ ghost use Rattle.tx_ops.specs.Calls.{call_walk};
 ghost use Rattle.tx_transfer.specs.Acts.{found_of, status_said, ResolvesSo, Acts};
 ghost use Rattle.tx_transfer.specs.PlainReplies.{says_outcome};
 ghost use Rattle.tx_transfer.specs.Replies.{reply_of, reply_by, said_of};
-ghost use Rattle.tx_transfer.specs.Sending.{SendsOver};
+ghost use Rattle.tx_transfer.specs.Sends.{SendsOver};
 
 use crate::context::Context;
 use crate::plain_reply::PlainReply;

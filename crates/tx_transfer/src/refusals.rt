@@ -1,6 +1,6 @@
 //! What stood in the way of the requests of a run.
 ghost use Rattle.std.specs.Prelude.{◌≡◌};
-ghost use Rattle.tx_transfer.specs.Counting.{sum_of, both_of, with_answer};
+ghost use Rattle.tx_transfer.specs.RequestCounts.{sum_of, both_of, with_answer};
 
 use std::fmt;
 use std::fmt::{Display, Formatter};

@@ -1,19 +1,20 @@
-//! What the sessions of a run send, over any way to the regions: what a line sends is its call's
-//! walk; what a transfer sends keeps what its session writes; a page of rows is what the machine
+//! What the sessions of a run send, over any way to the regions: each sends just the walk of its
+//! call. What a transfer sends keeps what its session writes; a page of rows is what the machine
 //! sees.
-ghost use Rattle.std.specs.Prelude.{◌≡◌, ◌≢◌, ℕ, true, false, IfOk, Ok};
+ghost use Rattle.std.specs.Prelude.{◌≡◌, ◌≢◌, true, false, IfOk, Ok};
 ghost use Rattle.tx_types.specs.Keys.{AreRising};
 ghost use Rattle.tx_core.specs.Histories.{Begins};
-ghost use Rattle.tx_core.specs.Worlds.{IsWorldRun};
-ghost use Rattle.tx_transaction.specs.Sessions.{is_declared, can_commit, can_abort};
+ghost use Rattle.tx_transaction.specs.declared.state.Phase.TheVariants as phase;
+ghost use Rattle.tx_transaction.specs.Sessions.{is_declared, can_commit, can_abort, due_prewrite, due_commit, due_abort};
 ghost use Rattle.tx_journal.specs.Senders.{IsSender};
 ghost use Rattle.tx_client.specs.Calls.{KeepsSet};
+ghost use Rattle.tx_client.specs.Walks.{Sends, get_walk, due_walk, scan_walk};
 ghost use Rattle.tx_reply.specs.declared.reply.ScriptReply.TheVariants as reply;
 ghost use Rattle.tx_steps.specs.Steps.{called};
 ghost use Rattle.tx_ops.specs.Calls.{call_walk};
 ghost use Rattle.tx_transfer.specs.PlainReplies.{says_outcome};
 ghost use Rattle.tx_transfer.specs.Seeds.{KeepsPut};
-ghost use Rattle.tx_transfer.specs.Sending.{KeepsSeats, RepliesOver, SendsOver};
+ghost use Rattle.tx_transfer.specs.Sends.{KeepsSeats, RepliesOver, SendsOver};
 ghost use Rattle.tx_transfer.specs.Totals.{IsPageOf, top};
 
 use std::alloc::Global;
@@ -50,7 +51,9 @@ pub(crate) fn get<J: JournalId, S: Sender<Request<J>, Reply<J>>>(
     sender: &mut S,
 ) -> Result<Answer, Miss>
     requires way { IsSender J.bounds S.fits S.sends S.keys_between }
-    ensures { KeepsSet session.old.state session.new.state }
+    ensures sends { Sends S.sends J.bounds session.old.seat sender.old (get_walk session.old.state key.now)
+        (session.new.state, result) sender.new session.new.seat }
+    ensures set { KeepsSet session.old.state session.new.state }
 {
     session.get(key, sender)
 }
@@ -63,6 +66,9 @@ pub(crate) fn prewrite<J: JournalId, S: Sender<Request<J>, Reply<J>>>(
 ) -> Result<Option<Answer>, Miss>
     requires way { IsSender J.bounds S.fits S.sends S.keys_between }
     requires can { is_declared session.old.state ≡ true }
+    ensures sends { Sends S.sends J.bounds session.old.seat sender.old
+        (due_walk session.old.state phase.Prewrite (due_prewrite session.old.state)) (session.new.state, result)
+        sender.new session.new.seat }
     ensures set { KeepsSet session.old.state session.new.state }
     ensures put { KeepsPut session.old.state session.new.state }
 {
@@ -76,6 +82,9 @@ pub(crate) fn commit<J: JournalId, S: Sender<Request<J>, Reply<J>>>(
 ) -> Result<Option<Answer>, Miss>
     requires way { IsSender J.bounds S.fits S.sends S.keys_between }
     requires can { can_commit session.old.state ≡ true }
+    ensures sends { Sends S.sends J.bounds session.old.seat sender.old
+        (due_walk session.old.state phase.Commit (due_commit session.old.state)) (session.new.state, result)
+        sender.new session.new.seat }
     ensures set { KeepsSet session.old.state session.new.state }
     ensures put { KeepsPut session.old.state session.new.state }
 {
@@ -89,7 +98,10 @@ pub(crate) fn abort<J: JournalId, S: Sender<Request<J>, Reply<J>>>(
 ) -> Result<Option<Answer>, Miss>
     requires way { IsSender J.bounds S.fits S.sends S.keys_between }
     requires can { can_abort session.old.state ≡ true }
-    ensures { KeepsSet session.old.state session.new.state }
+    ensures sends { Sends S.sends J.bounds session.old.seat sender.old
+        (due_walk session.old.state phase.Abort (due_abort session.old.state)) (session.new.state, result)
+        sender.new session.new.seat }
+    ensures set { KeepsSet session.old.state session.new.state }
 {
     session.abort_next(sender)
 }
@@ -105,6 +117,9 @@ pub(crate) fn page<J: JournalId, S: Sender<Request<J>, Reply<J>>>(
     requires way { IsSender J.bounds S.fits S.sends S.keys_between }
     requires rising { AreRising J.bounds }
     requires top { to.now ≡ top }
+    ensures sends { Sends S.sends J.bounds session.old.seat sender.old
+        (scan_walk session.old.state J.bounds from.now to.now MAX_SCAN_ROWS) (session.new.state, result)
+        sender.new session.new.seat }
     ensures start { session.new.state.start ≡ session.old.state.start }
     ensures knows { Begins session.old.seat.events session.new.seat.events }
     ensures page { IsPageOf J.bounds session.new.seat.events session.old.state.start from.now result }

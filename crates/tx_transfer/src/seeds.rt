@@ -111,7 +111,8 @@ fn texts_of(alloc: Global, key: &str, value: &str) -> Result<(Key, Value), Fault
     Ok((key, value))
 }
 
-// What a seed came to, whose session is to have committed.
+// What a seed came to, whose session is to have committed. Seeds are alone in the store, where only
+// want of memory keeps one from its commit: that is told of any that did not commit.
 fn seeded(written: Result<(), Fault>, committed: bool) -> Result<(), Fault>
     ensures ok { OnOk result ((written ≡ Ok tt) × (committed ≡ true)) }
     ensures err { IfErr result (λ e. (e ≡ fault.OutOfMemory) ⊎ (written ≡ Err e)) }

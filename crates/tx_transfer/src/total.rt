@@ -126,8 +126,8 @@ fn ended<J: JournalId>(read: Result<u128, Fault>, seat: Seat<J>) -> Result<(u128
     }
 }
 
-/// The sum of the balances of all keys, read at a fresh timestamp, page by page. Locks that stand in
-/// the way are resolved as if their time were over.
+/// The sum of the balances of all keys, read at a fresh timestamp, page by page. Locks that stand
+/// in the way are resolved as if their time were over.
 pub fn read_total<J: JournalId, F: Families + Drop, R: Wait + Drop>(
     seat: Seat<J>,
     context: &mut Context<J, F, R>,

@@ -96,9 +96,19 @@ impl Model for Text {
     ghost invariant = { λ t. IsWithin t.kept };
 }
 
+// Lets bytes that lie elsewhere go.
+#[inline(never)]
+fn drop_kept(_kept: Storage) {}
+
 impl Drop for Text {
+    // Mostly the bytes stand in the value itself.
+    #[inline(always)]
     fn drop(self) {
-        let Self { kept: _ } = self;
+        let Self { kept } = self;
+        match kept {
+            Storage::Short(_) => {}
+            kept => drop_kept(kept),
+        }
     }
 }
 

@@ -13,7 +13,7 @@ use Rattle.tx_recording.specs.Explanations.{act_on, after, Puts, PutsIn, IsPut, 
 use Rattle.tx_recording.proofs.Puts.{after_same, after_other, after_contains, puts_more, puts_head}
 use Rattle.tx_views.specs.declared.effect.Effect.{Effect}
 use Rattle.tx_views.specs.Views.{IsEffect, left_by}
-use Rattle.tx_views.proofs.Viewing.{appended}
+use Rattle.tx_views.proofs.ReadViews.{appended}
 use Rattle.tx_verdict.proofs.Distinct.{IsDistinct, IsOnce, seen_distinct}
 
 -- operations leave these values in place of what there was, or behind it; and they put them

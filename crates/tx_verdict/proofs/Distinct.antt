@@ -12,7 +12,7 @@ use Rattle.tx_recording.specs.Recordings.{ops_of, no_op}
 use Rattle.tx_recording.specs.Explanations.{act_on, after, Puts, PutsIn, IsPut, ArePutOnce, Explanation, IsWriter, Sees, Explains}
 use Rattle.tx_recording.proofs.Puts.{after_same, after_other, puts_more, puts_head}
 use Rattle.tx_recording.proofs.Seen.{seen_put}
-use Rattle.tx_views.proofs.Owning.{puts_one}
+use Rattle.tx_views.proofs.ValueOwners.{puts_one}
 pub use Rattle.tx_verdict.specs.Facts.{IsDistinct}
 
 -- operations that put each value once

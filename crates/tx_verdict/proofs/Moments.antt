@@ -12,8 +12,8 @@ use Rattle.tx_history.specs.declared.recorded.After.{After}
 use Rattle.tx_verdict.specs.declared.versions.Versions.{Versions}
 use Rattle.tx_verdict.specs.Forced.{AreKnown, end_of}
 use Rattle.tx_verdict.specs.Pairs.{HasEnded, HasBegun, IsPair, time_of}
-use Rattle.tx_clock.proofs.Ticking.{is_one}
-use Rattle.tx_verdict.proofs.Forcing.{start_in, commit_in, start_low, commit_low, start_high, commit_high, wide_lt, wide_le}
+use Rattle.tx_clock.proofs.ClockOrder.{is_one}
+use Rattle.tx_verdict.proofs.ForcedTimestamps.{start_in, commit_in, start_low, commit_low, start_high, commit_high, wide_lt, wide_le}
 
 -- the commit, if it is known and had ended by then
 abbrev pub ended_commit : Outcome → Option ℕ → ℕ → ℕ → ℕ

@@ -4,7 +4,7 @@ use Rattle.std.proofs.lemmas.List.{take-append-drop, take-take}
 use Rattle.tx_recording.specs.declared.recording.Span.{Span}
 use Rattle.tx_views.specs.declared.effect.Effect.{Effect}
 use Rattle.tx_views.specs.Views.{left_by}
-use Rattle.tx_views.proofs.Viewing.{appended, cleared}
+use Rattle.tx_views.proofs.ReadViews.{appended, cleared}
 use Rattle.tx_verdict.specs.Versions.{text_in}
 
 pub whole : (xs ys : List ℕ) → drop 0 xs ≡ ys → xs ≡ ys

@@ -20,10 +20,10 @@ use Rattle.tx_verdict.specs.Versions.{text_of, live_of, IsKeyFit, IsPlaced, IsVi
 use Rattle.tx_verdict.specs.Fits.{IsFit, last_by}
 use Rattle.tx_verdict.specs.Forced.{AreForced, AreKnown, IsChain, IsReadForced, key_of}
 use Rattle.tx_verdict.specs.Verdicts.{AreTimestampsOf, IsRefused}
-use Rattle.tx_verdict.proofs.Fitting.{explains_so}
+use Rattle.tx_verdict.proofs.Fits.{explains_so}
 use Rattle.tx_clock.specs.KeptOrder.{KeepsPairs}
 use Rattle.tx_verdict.specs.Pairs.{IsPair}
-use Rattle.tx_verdict.proofs.Forcing.{start_in, commit_in, assigned}
+use Rattle.tx_verdict.proofs.ForcedTimestamps.{start_in, commit_in, assigned}
 use Rattle.tx_verdict.proofs.Moments.{tick_of, pair_after}
 
 pub fit_of : (r : Recording) (views : List View) (v : Versions) → txns_of r ≤ v.recorded.txns

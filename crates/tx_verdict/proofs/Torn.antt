@@ -12,15 +12,15 @@ use Rattle.tx_views.specs.declared.view.View.{View}
 use Rattle.tx_views.specs.declared.effect.Effect.{Effect}
 use Rattle.tx_views.specs.Owners.{AreOwners, owner_at}
 use Rattle.tx_views.specs.Views.{Saw, IsViewOf, IsEffect, left_by}
-use Rattle.tx_views.proofs.Viewing.{appended, cleared}
-use Rattle.tx_views.proofs.Owning.{put_once}
+use Rattle.tx_views.proofs.ReadViews.{appended, cleared}
+use Rattle.tx_views.proofs.ValueOwners.{put_once}
 use Rattle.tx_verdict.specs.declared.verdict.Fact.{Fact}
 use Rattle.tx_verdict.specs.declared.verdict.Rule.TheVariants.{G1b, Duplicate, IncompatibleOrder}
 use Rattle.tx_verdict.specs.Facts.{IsTorn, IsTornBy, IsDistinct, AreLists}
 use Rattle.tx_verdict.specs.Verdicts.{IsNever, IsWrong}
 use Rattle.tx_verdict.proofs.Distinct.{IsOnce, after_distinct, none_distinct, seen_distinct}
-use Rattle.tx_verdict.proofs.Chaining.{once_each}
-use Rattle.tx_verdict.proofs.Seeing.{view_sees, owner_puts}
+use Rattle.tx_verdict.proofs.Chains.{once_each}
+use Rattle.tx_verdict.proofs.Views.{view_sees, owner_puts}
 use Rattle.tx_verdict.proofs.Prefixes.{agree}
 use Rattle.tx_verdict.proofs.Whole.{is_whole}
 

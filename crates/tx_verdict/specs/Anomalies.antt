@@ -1,5 +1,5 @@
 -- What the name of a cycle says of its steps: they have one name each.
-use Rattle.std.specs.Prelude.{◌≡◌, ◌≢◌, ℕ, ◌≤◌, Bool, true, false, List, length, count_by}
+use Rattle.std.specs.Prelude.{◌≡◌, ℕ, ◌≤◌, Bool, true, false, List, length, count_by}
 use Rattle.tx_verdict.specs.declared.verdict.Edge.{Edge}
 use Rattle.tx_verdict.specs.declared.verdict.Edge.TheVariants.{Wr, Rw}
 use Rattle.tx_verdict.specs.declared.verdict.CycleStep.{CycleStep}

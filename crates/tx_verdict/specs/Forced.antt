@@ -1,6 +1,6 @@
 -- When a history holds under each explanation of a recording. Only this crate's own clauses cite
 -- it.
-use Rattle.std.specs.Prelude.{◌≡◌, ℕ, ◌+◌, ◌<◌, ◌≤◌, Bool, cond, List, length, Contains, IsTrue, false, zero, suc, slice_index}
+use Rattle.std.specs.Prelude.{◌≡◌, ℕ, ◌+◌, ◌<◌, ◌≤◌, cond, List, length, Contains, IsTrue, false, zero, suc, slice_index}
 use Rattle.tx_recording.specs.declared.recording.Op.{Op}
 use Rattle.tx_recording.specs.declared.recording.Orders.{Orders}
 use Rattle.tx_views.specs.declared.effect.Effect.{Effect}

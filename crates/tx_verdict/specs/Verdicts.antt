@@ -1,5 +1,5 @@
 -- What a verdict says of a recording.
-use Rattle.std.specs.Prelude.{◌≡◌, ℕ, false, List, slice_index, slice_index_or}
+use Rattle.std.specs.Prelude.{ℕ, false, List, slice_index, slice_index_or}
 use Rattle.tx_recording.specs.declared.recording.Orders.{Orders}
 use Rattle.tx_recording.specs.declared.recording.Recording.{Recording}
 use Rattle.tx_recording.specs.Explanations.{IsPut, Explanation, Explains}

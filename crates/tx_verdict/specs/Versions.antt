@@ -2,10 +2,9 @@
 use Rattle.std.specs.Prelude.{◌≡◌, ℕ, ◌+◌, ◌<◌, ◌≤◌, Bool, List, length, ◌-◌, Contains, IsTrue, zero, suc, slice_index, slice_index_or, slice_range}
 use Rattle.tx_recording.specs.declared.recording.Span.{Span}
 use Rattle.tx_recording.specs.declared.recording.Recording.{Recording}
-use Rattle.tx_recording.specs.Recordings.{txns_of, ops_of, list_of}
-use Rattle.tx_recording.specs.Explanations.{after, PutsIn, IsPut}
+use Rattle.tx_recording.specs.Recordings.{ops_of, list_of}
+use Rattle.tx_recording.specs.Explanations.{after, IsPut}
 use Rattle.tx_views.specs.declared.view.View.{View}
-use Rattle.tx_history.specs.declared.recorded.Read.{Read}
 use Rattle.tx_history.specs.Histories.{HasVersion}
 use Rattle.tx_history.specs.Records.{history_of, writers_of}
 use Rattle.tx_clock.specs.KeptOrder.{live_in}

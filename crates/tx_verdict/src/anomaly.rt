@@ -1,5 +1,5 @@
 //! The names of cycles.
-ghost use Rattle.std.specs.Prelude.{◌≡◌, ◌↔◌, ℕ, Option, IsTrue};
+ghost use Rattle.std.specs.Prelude.{◌≡◌, ◌↔◌, Option, IsTrue};
 ghost use Rattle.tx_verdict.specs.Anomalies.{IsNamed, is_rw, is_wr};
 
 use crate::verdict::{CycleStep, Edge};

@@ -1,5 +1,5 @@
 //! What stands round a value that was seen.
-ghost use Rattle.std.specs.Prelude.{◌≡◌, ◌≢◌, ℕ, ◌<◌, ◌≤◌, List, ◌++◌, length, false, IfOk, IfSome, IfNone, slice_index};
+ghost use Rattle.std.specs.Prelude.{◌≡◌, ◌≢◌, ℕ, ◌<◌, List, ◌++◌, length, false, IfOk, IfSome, IfNone, slice_index};
 ghost use Rattle.tx_recording.specs.Recordings.{IsRecording, list_of};
 ghost use Rattle.tx_views.specs.Owners.{AreOwners};
 ghost use Rattle.tx_views.specs.Views.{IsViewOf};

@@ -1,5 +1,5 @@
 //! What one transaction saw that nothing explains.
-ghost use Rattle.std.specs.Prelude.{◌≡◌, ℕ, ◌+◌, ◌<◌, ◌≤◌, length, Contains, Some, IfOk, IfSome, IsTrue, slice_index};
+ghost use Rattle.std.specs.Prelude.{◌≡◌, ℕ, ◌<◌, length, Contains, Some, IfOk, IfSome, IsTrue};
 ghost use Rattle.tx_recording.specs.declared.recording.Outcome.TheVariants.{Fail as Failed};
 ghost use Rattle.tx_recording.specs.Recordings.{IsRecording, transaction_at, ops_of, list_of};
 ghost use Rattle.tx_recording.specs.Explanations.{PutsIn};

@@ -1,11 +1,11 @@
 //! Whether versions are what their writers make of them, and what was read.
-ghost use Rattle.std.specs.Prelude.{◌≡◌, ◌⊎◌, ℕ, ◌+◌, ◌-◌, ◌^◌, ◌<◌, ◌≤◌, length, Contains, IfOk, IfSome, IfNone, IsTrue, true, false, slice_index};
+ghost use Rattle.std.specs.Prelude.{◌≡◌, ◌⊎◌, ℕ, ◌+◌, ◌-◌, ◌^◌, ◌<◌, ◌≤◌, length, Contains, IfOk, IfSome, IfNone, IsTrue, true, false};
 ghost use Rattle.tx_recording.specs.declared.recording.Outcome.TheVariants.{Ok as Committed, Fail as Failed};
 ghost use Rattle.tx_recording.specs.Recordings.{IsRecording, txns_of, transaction_at, ops_of};
-ghost use Rattle.tx_recording.specs.Explanations.{PutsIn, IsPut, op_at, Puts};
+ghost use Rattle.tx_recording.specs.Explanations.{PutsIn, IsPut, Puts};
 ghost use Rattle.tx_views.specs.declared.view.View.{View};
 ghost use Rattle.tx_views.specs.Views.{left_by, IsViewOf};
-ghost use Rattle.tx_history.specs.Records.{IsRecorded, AreHeads, history_of, writers_of};
+ghost use Rattle.tx_history.specs.Records.{IsRecorded, history_of, writers_of};
 ghost use Rattle.tx_verdict.specs.Versions.{text_in, text_of, live_of, IsVersionFit, IsKeyFit, IsPlaced, IsViewFit};
 ghost use Rattle.tx_verdict.specs.Fits.{IsFit};
 

@@ -1,18 +1,17 @@
 //! Whether what versions stand on holds under each explanation.
-ghost use Rattle.std.specs.Prelude.{◌≡◌, ◌≢◌, ◌⊎◌, ℕ, ◌+◌, ◌-◌, ◌<◌, ◌≤◌, length, Contains, Some, ◌&&◌, IfOk, IfSome, IfNone, IsTrue, slice_index};
+ghost use Rattle.std.specs.Prelude.{ℕ, ◌+◌, ◌-◌, ◌<◌, Contains, Some, IfOk, IsTrue};
 ghost use Rattle.tx_recording.specs.declared.recording.Orders.{Orders};
-ghost use Rattle.tx_recording.specs.Recordings.{IsRecording, txns_of, transaction_at, ops_of};
-ghost use Rattle.tx_recording.specs.Explanations.{Explanation, Explains, IsWriter, IsNewest};
+ghost use Rattle.tx_recording.specs.Recordings.{IsRecording, ops_of};
+ghost use Rattle.tx_recording.specs.Explanations.{Explanation, Explains};
 ghost use Rattle.tx_views.specs.declared.view.View.{View};
 ghost use Rattle.tx_views.specs.Views.{IsViewOf};
-ghost use Rattle.tx_views.specs.Owners.{AreOwners, owner_at};
+ghost use Rattle.tx_views.specs.Owners.{AreOwners};
 ghost use Rattle.tx_views.specs.declared.owner.Owner.{Owner};
 ghost use Rattle.tx_history.specs.declared.recorded.Read.{Read};
 ghost use Rattle.tx_history.specs.Records.{IsRecorded, history_of, writers_of};
 ghost use Rattle.tx_history.specs.declared.recorded.After.{After};
 ghost use Rattle.tx_verdict.specs.Pairs.{IsPair};
-ghost use Rattle.tx_verdict.specs.Versions.{live_of};
-ghost use Rattle.tx_verdict.specs.Forced.{AreForced, IsBased, IsLinked, AreKnown, AreWriters, IsChain, IsReadForced, AddsFirst, key_of};
+ghost use Rattle.tx_verdict.specs.Forced.{AreForced, AreKnown, AreWriters, IsChain, IsReadForced, key_of};
 
 use crate::chain::is_chain;
 use crate::fit::puts;

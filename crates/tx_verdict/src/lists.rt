@@ -1,6 +1,6 @@
 //! What is wrong with the lists that were seen, where nothing is written in place of what was
 //! there.
-ghost use Rattle.std.specs.Prelude.{◌≡◌, ◌≢◌, ℕ, ◌<◌, ◌≤◌, length, Contains, IfOk, IfSome, IsTrue, slice_index};
+ghost use Rattle.std.specs.Prelude.{◌≡◌, ◌≢◌, ◌<◌, length, Contains, IfOk, IfSome, IsTrue, slice_index};
 ghost use Rattle.tx_recording.specs.Recordings.{IsRecording, list_of};
 ghost use Rattle.tx_views.specs.declared.view.View.{View};
 ghost use Rattle.tx_views.specs.Owners.{AreOwners};

@@ -1,6 +1,5 @@
 //! Whether what comes after what in a history is so by the orders of processes and of the clock.
-ghost use Rattle.std.specs.Prelude.{◌≡◌, ℕ, ◌+◌, ◌<◌, ◌≤◌, length, Contains, IfSome, IsTrue, true, slice_index};
-ghost use Rattle.tx_recording.specs.Recordings.{txns_of};
+ghost use Rattle.std.specs.Prelude.{ℕ, ◌<◌, ◌≤◌, length, Contains, IfSome, IsTrue, true, slice_index};
 ghost use Rattle.tx_recording.specs.Explanations.{IsSession, IsEarlier};
 ghost use Rattle.tx_history.specs.declared.recorded.After.{After};
 ghost use Rattle.tx_verdict.specs.Pairs.{HasEnded, HasBegun, IsMomentOf, IsPair, IsTick};

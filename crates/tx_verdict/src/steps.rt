@@ -1,5 +1,5 @@
 //! The steps of a cycle.
-ghost use Rattle.std.specs.Prelude.{◌≡◌, ◌≢◌, ◌⊎◌, ℕ, ◌+◌, ◌-◌, ◌<◌, ◌≤◌, length, Contains, Some, OnOk, IfOk, IfSome, IsTrue, true, false, slice_index};
+ghost use Rattle.std.specs.Prelude.{◌≡◌, ◌≢◌, ◌⊎◌, ◌+◌, ◌-◌, ◌<◌, Contains, Some, OnOk, IfOk, IfSome, IsTrue, true, false};
 ghost use Rattle.tx_recording.specs.declared.recording.Orders.{Orders};
 ghost use Rattle.tx_history.specs.declared.dependency.Dependency.{Dependency};
 ghost use Rattle.tx_history.specs.Dependencies.{Depends};

@@ -1,5 +1,5 @@
 //! Keys of which two puts may have come in two orders.
-ghost use Rattle.std.specs.Prelude.{◌≡◌, ℕ, ◌<◌, length, IsTrue, slice_index};
+ghost use Rattle.std.specs.Prelude.{IsTrue};
 ghost use Rattle.tx_recording.specs.Recordings.{IsRecording, ops_of};
 ghost use Rattle.tx_verdict.specs.Undecided.{PutsFirst, IsBlind, IsUndecided};
 

@@ -1,5 +1,5 @@
 //! The versions of the keys of a recording.
-ghost use Rattle.std.specs.Prelude.{◌≡◌, ℕ, ◌+◌, ◌^◌, ◌<◌, IfSome, IfNone, slice_range};
+ghost use Rattle.std.specs.Prelude.{◌≡◌, ◌+◌, ◌^◌, ◌<◌, IfSome, slice_range};
 ghost use Rattle.tx_verdict.specs.Versions.{span_of, live_of};
 
 use tx_history::Recorded;

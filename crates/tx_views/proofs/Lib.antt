@@ -1,3 +1,3 @@
 pub mod Effects
-pub mod Owning
-pub mod Viewing
+pub mod ValueOwners
+pub mod ReadViews

@@ -1,6 +1,5 @@
 -- What reads say of what their transactions saw.
 use Rattle.std.specs.Prelude.{◌≡◌, ◌⊎◌, ◌↔◌, ℕ, ◌+◌, ◌<◌, ◌≤◌, cond, List, ◌++◌, length, Contains, take}
-use Rattle.tx_recording.specs.declared.recording.Outcome.{Outcome}
 use Rattle.tx_recording.specs.declared.recording.Outcome.TheVariants.{Ok}
 use Rattle.tx_recording.specs.declared.recording.Span.{Span}
 use Rattle.tx_recording.specs.declared.recording.Op.{Op}

@@ -2,7 +2,7 @@
 ghost use Rattle.std.specs.Prelude.{◌≡◌, ℕ, ◌+◌, ◌<◌, length, None, Some, IfOk, IfSome, IfNone};
 ghost use Rattle.tx_recording.specs.Explanations.{Puts};
 ghost use Rattle.tx_recording.specs.Recordings.{IsRecording, txns_of, ops_of};
-ghost use Rattle.tx_views.specs.Owners.{AreOwners, IsOwned, IsTwice, IsOwnerOf, KeepsOwners, Notes, owner_at};
+ghost use Rattle.tx_views.specs.Owners.{IsOwned, IsTwice, IsOwnerOf, KeepsOwners, Notes, owner_at};
 
 use std::alloc::{AllocError, Global};
 use tx_recording::{Act, Recording};

@@ -150,7 +150,10 @@ impl<J: JournalId> Session<J> {
             None => Err(self),
             Some(outcome) => {
                 let start = self.transaction.start();
-                let mut seat = self.into_seat();
+                let Session {
+                    mut seat,
+                    transaction: _,
+                } = self;
                 record_answered(&mut seat, start, &outcome);
                 Ok((outcome, seat))
             }

@@ -12,10 +12,10 @@ use Rattle.tx_core.proofs.Basics.{nat_same, cond_true, some_same}
 use Rattle.tx_core.proofs.view.View.{View, Inv, IsPrimary, IsCommitted, IsAborted, FellBack, one_first, does_declared}
 use Rattle.tx_core.proofs.changes.Keyed.{keyed, keyed_same, keyed_to, own_cases, at_cells}
 use Rattle.tx_core.proofs.changes.HeartBeat.{lengthened, lengthening}
-use Rattle.tx_core.proofs.changes.Settling.{settling, kept_rollback}
-use Rattle.tx_core.proofs.changes.RollingBack.{rolled_with, rolling_back, leaving_rollback, resolving_back, own_rolled, kept_rolled, was_locked}
-use Rattle.tx_core.proofs.changes.Deciding.{deciding, CanDecide, inv_decide, was_decided, still_decided}
-use Rattle.tx_core.proofs.changes.Aborting.{aborting, was_ended, still_ended}
+use Rattle.tx_core.proofs.changes.Settlements.{settling, kept_rollback}
+use Rattle.tx_core.proofs.changes.Rollbacks.{rolled_with, rolling_back, leaving_rollback, resolving_back, own_rolled, kept_rolled, was_locked}
+use Rattle.tx_core.proofs.changes.Commits.{deciding, CanDecide, inv_decide, was_decided, still_decided}
+use Rattle.tx_core.proofs.changes.Aborts.{aborting, was_ended, still_ended}
 use Rattle.tx_core.proofs.view.Ends.{Refused, FirstCleared, Ends, ends_keyed}
 use Rattle.tx_plan.specs.cases.TxnHeartBeat.{with_ttl}
 

@@ -20,20 +20,20 @@ use Rattle.tx_types.specs.Keys.{IsRising, value_in}
 use Rattle.tx_machine.specs.Keys.{mutation_at, is_insert, inserted, IsDistinct, covered}
 use Rattle.tx_machine.specs.Machine.{SeesRows, IsRead, changes_in, table_of}
 use Rattle.tx_plan.specs.Reads.{Reads}
-use Rattle.tx_core.proofs.changes.Drawing.{drawing, inv_draw}
-use Rattle.tx_core.proofs.changes.Beginning.{beginning, inv_begin}
-use Rattle.tx_core.proofs.changes.Declaring.{declaring, inv_declare}
-use Rattle.tx_core.proofs.changes.Reading.{reading, Unblocked, inv_read}
-use Rattle.tx_core.proofs.changes.Raising.{raising, raising_safe, inv_raise, inv_raise_safe}
+use Rattle.tx_core.proofs.changes.Draws.{drawing, inv_draw}
+use Rattle.tx_core.proofs.changes.Begins.{beginning, inv_begin}
+use Rattle.tx_core.proofs.changes.Declarations.{declaring, inv_declare}
+use Rattle.tx_core.proofs.changes.Reads.{reading, Unblocked, inv_read}
+use Rattle.tx_core.proofs.changes.Raises.{raising, raising_safe, inv_raise, inv_raise_safe}
 use Rattle.tx_core.proofs.changes.Keyed.{keyed}
-use Rattle.tx_core.proofs.changes.Locking.{locking, MayLock, inv_lock}
+use Rattle.tx_core.proofs.changes.Locks.{locking, MayLock, inv_lock}
 use Rattle.tx_core.proofs.changes.HeartBeat.{lengthening, inv_lengthen}
-use Rattle.tx_core.proofs.changes.Settling.{settling, inv_settle}
-use Rattle.tx_core.proofs.changes.RollingBack.{rolling_back, leaving_rollback, resolving_back, inv_roll_back, inv_leave_rollback, inv_resolve_back}
-use Rattle.tx_core.proofs.changes.Deciding.{deciding, CanDecide, inv_decide}
-use Rattle.tx_core.proofs.changes.Aborting.{aborting, inv_abort}
-use Rattle.tx_core.proofs.changes.Pushing.{pushing, inv_push}
-use Rattle.tx_core.proofs.changes.Collecting.{collecting, inv_collect}
+use Rattle.tx_core.proofs.changes.Settlements.{settling, inv_settle}
+use Rattle.tx_core.proofs.changes.Rollbacks.{rolling_back, leaving_rollback, resolving_back, inv_roll_back, inv_leave_rollback, inv_resolve_back}
+use Rattle.tx_core.proofs.changes.Commits.{deciding, CanDecide, inv_decide}
+use Rattle.tx_core.proofs.changes.Aborts.{aborting, inv_abort}
+use Rattle.tx_core.proofs.changes.Pushes.{pushing, inv_push}
+use Rattle.tx_core.proofs.changes.Collections.{collecting, inv_collect}
 use Rattle.tx_core.proofs.view.Tables.{Shows, Sound, changes_of, row_declared, may_commit, has_ended, sees}
 
 undeclared : (w : View) (t : ℕ) → Inv w → w.began t ≡ false → w.declared t ≡ None

@@ -13,7 +13,7 @@ use Rattle.tx_core.specs.declared.event.Event.TheVariants.{Drawn, Began, Declare
 use Rattle.tx_core.specs.Histories.{History}
 use Rattle.tx_core.specs.Worlds.{IsWorldRun, MayTake}
 use Rattle.tx_core.specs.Shadow.{shadow}
-use Rattle.tx_core.proofs.seats.Staying.{upto_last}
+use Rattle.tx_core.proofs.seats.Stays.{upto_last}
 use Rattle.tx_core.proofs.examples.Words.{a, x, none, unrolled, decides}
 use Rattle.std.proofs.lemmas.Bool.{eqb-true}
 use Rattle.tx_plan.specs.Cells.{CommitRecord, CommitOf}

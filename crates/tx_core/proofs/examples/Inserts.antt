@@ -11,7 +11,7 @@ use Rattle.tx_core.specs.declared.event.Event.TheVariants.{Drawn, Took}
 use Rattle.tx_core.specs.Histories.{History, left}
 use Rattle.tx_core.specs.Worlds.{IsWorldRun, MayTake}
 use Rattle.tx_core.proofs.Basics.{nat_test}
-use Rattle.tx_core.proofs.seats.Staying.{upto_last}
+use Rattle.tx_core.proofs.seats.Stays.{upto_last}
 use Rattle.tx_core.proofs.examples.Words.{a, x}
 use Rattle.tx_core.proofs.examples.OneKey.{begins, lock_key, commit_key, begins_run, AllBelow, locks, refuses, commits}
 use Rattle.tx_core.specs.Happens.{Happens, CommitsInsert, RefusesInsert, InsertsOverDelete, FindsCommit, FindsByStatus}

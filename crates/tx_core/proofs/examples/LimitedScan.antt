@@ -25,7 +25,7 @@ use Rattle.tx_core.specs.Worlds.{IsWorldRun, MayTake}
 use Rattle.tx_core.specs.Shadow.{shadow}
 use Rattle.tx_core.specs.Truth.{scan_read}
 use Rattle.tx_core.proofs.Basics.{key_test, key_true, chosen}
-use Rattle.tx_core.proofs.seats.Staying.{upto_last}
+use Rattle.tx_core.proofs.seats.Stays.{upto_last}
 use Rattle.tx_core.proofs.examples.Words.{a, b, x, none, unrolled}
 
 abbrev two_keys : Declaration

@@ -14,7 +14,7 @@ use Rattle.tx_core.specs.declared.event.Taken.{Taken}
 use Rattle.tx_core.specs.declared.event.Event.TheVariants.{Drawn, Took}
 use Rattle.tx_core.specs.Histories.{History}
 use Rattle.tx_core.specs.Worlds.{IsWorldRun, MayTake}
-use Rattle.tx_core.proofs.seats.Staying.{upto_last}
+use Rattle.tx_core.proofs.seats.Stays.{upto_last}
 use Rattle.tx_core.proofs.examples.Words.{a, b, x, none}
 use Rattle.tx_core.proofs.examples.OneKey.{begins, lock_key, begins_run, locks}
 use Rattle.tx_core.specs.Happens.{Happens, ScanMeetsLock}

@@ -36,7 +36,7 @@ use Rattle.tx_core.proofs.view.HistoryView.{view}
 use Rattle.tx_core.proofs.runs.AllRuns.{run_told}
 use Rattle.tx_core.proofs.locks.Told.{contains_one}
 use Rattle.tx_core.proofs.seats.Beginnings.{begins_all}
-use Rattle.tx_core.proofs.seats.Staying.{declared_on, accepted_on}
+use Rattle.tx_core.proofs.seats.Stays.{declared_on, accepted_on}
 use Rattle.tx_core.proofs.seats.StaysDecided.{two_phase_on}
 use Rattle.tx_core.proofs.locks.LocksSay.{all_say}
 

@@ -19,7 +19,7 @@ use Rattle.tx_core.proofs.view.Ends.{fell_of_declared, missing_live}
 use Rattle.tx_core.proofs.changes.CellsEnds.{ends_roll_back, ends_abort_first, ends_abort_missing}
 use Rattle.tx_core.proofs.changes.Sounds.{sound_roll_back}
 use Rattle.tx_core.proofs.view.HistoryView.{view}
-use Rattle.tx_core.proofs.requests.LeavingRollback.{LeavesRollback, follows, rolled}
+use Rattle.tx_core.proofs.requests.LeftRollback.{LeavesRollback, follows, rolled}
 use Rattle.tx_core.proofs.requests.Good.{Good, Next, OnKey, took, cells_at, quiet, true_commit}
 use Rattle.tx_plan.specs.Answers.{leaves_on}
 

@@ -19,7 +19,7 @@ use Rattle.tx_core.proofs.view.Ends.{missing_live}
 use Rattle.tx_core.proofs.changes.CellsEnds.{ends_leave_rollback, ends_abort_leaving}
 use Rattle.tx_core.proofs.changes.Sounds.{sound_leave_rollback}
 use Rattle.tx_core.proofs.view.HistoryView.{view}
-use Rattle.tx_core.proofs.requests.LeavingRollback.{LeavesRollback, rolled}
+use Rattle.tx_core.proofs.requests.LeftRollback.{LeavesRollback, rolled}
 use Rattle.tx_core.proofs.requests.Good.{Good, Next, OnKey, took, cells_at, quiet, true_commit}
 use Rattle.tx_plan.specs.Answers.{leaves_on}
 

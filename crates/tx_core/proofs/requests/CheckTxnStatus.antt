@@ -21,13 +21,13 @@ use Rattle.tx_core.specs.Worlds.{route}
 use Rattle.tx_core.specs.Shadow.{shadow}
 use Rattle.tx_core.specs.Truth.{HasEnded}
 use Rattle.tx_core.proofs.view.View.{FellBack, IsPrimary, first_within, does_within, never_accepted, first_declared}
-use Rattle.tx_core.proofs.changes.Pushing.{pushed, pushing, push_same, ends_push}
+use Rattle.tx_core.proofs.changes.Pushes.{pushed, pushing, push_same, ends_push}
 use Rattle.tx_core.proofs.view.Ends.{Ends, fell_of_lock, missing_live}
 use Rattle.tx_core.proofs.changes.CellsEnds.{ends_roll_back, ends_abort_first, ends_abort_missing}
 use Rattle.tx_core.proofs.changes.Sounds.{sound_roll_back, sound_push}
 use Rattle.tx_core.proofs.view.Tables.{Sound, ended_decided}
 use Rattle.tx_core.proofs.view.HistoryView.{view}
-use Rattle.tx_core.proofs.requests.LeavingRollback.{LeavesRollback, follows, rolled}
+use Rattle.tx_core.proofs.requests.LeftRollback.{LeavesRollback, follows, rolled}
 use Rattle.tx_core.proofs.requests.Good.{Good, Next, OnKey, took, cells_at, assemble, quiet, decided_same, true_commit}
 use Rattle.tx_plan.specs.Answers.{leaves_on}
 

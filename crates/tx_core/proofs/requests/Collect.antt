@@ -14,7 +14,7 @@ use Rattle.tx_core.specs.Histories.{History, left}
 use Rattle.tx_core.specs.Worlds.{route}
 use Rattle.tx_core.specs.Shadow.{shadow}
 use Rattle.tx_core.proofs.Basics.{nat_test, cond_true, cond_false}
-use Rattle.tx_core.proofs.changes.Collecting.{collecting, ends_collect}
+use Rattle.tx_core.proofs.changes.Collections.{collecting, ends_collect}
 use Rattle.tx_core.proofs.changes.Sounds.{sound_collect}
 use Rattle.tx_core.proofs.view.HistoryView.{view}
 use Rattle.tx_core.proofs.requests.Good.{Good, Next, took, part_same, cells_at}

@@ -21,8 +21,8 @@ use Rattle.tx_core.specs.Truth.{IsOpen}
 use Rattle.tx_core.proofs.Basics.{nat_test, nat_same, cond_true, some_of}
 use Rattle.tx_core.proofs.view.View.{FellBack, IsCommitted, first_declared, does_within, lock_ends}
 use Rattle.tx_core.proofs.changes.Keyed.{own_cases}
-use Rattle.tx_core.proofs.changes.Settling.{settling}
-use Rattle.tx_core.proofs.changes.Deciding as decide
+use Rattle.tx_core.proofs.changes.Settlements.{settling}
+use Rattle.tx_core.proofs.changes.Commits as decide
 use Rattle.tx_core.proofs.view.Ends.{first_opens}
 use Rattle.tx_core.proofs.changes.CellsEnds.{ends_settle, ends_finish}
 use Rattle.tx_core.proofs.changes.Sounds.{sound_settle, sound_decide}

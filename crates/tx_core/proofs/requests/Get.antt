@@ -17,9 +17,9 @@ use Rattle.tx_core.specs.Decisions.{decided}
 use Rattle.tx_core.specs.Worlds.{route}
 use Rattle.tx_core.specs.Shadow.{shadow}
 use Rattle.tx_core.proofs.Basics.{key_true}
-use Rattle.tx_core.proofs.changes.Raising.{raising}
-use Rattle.tx_core.proofs.changes.Reading.{Passes, Unblocked}
-use Rattle.tx_core.proofs.view.Meeting.{unblocked}
+use Rattle.tx_core.proofs.changes.Raises.{raising}
+use Rattle.tx_core.proofs.changes.Reads.{Passes, Unblocked}
+use Rattle.tx_core.proofs.view.Reads.{unblocked}
 use Rattle.tx_core.proofs.view.Tables.{Sound}
 use Rattle.tx_core.proofs.changes.Sounds.{sound_read}
 use Rattle.tx_core.proofs.view.HistoryView.{shown_in, view}

@@ -25,7 +25,7 @@ use Rattle.tx_core.specs.Truth.{HasEnded, IsOvertaken, IsTrueAnswer}
 use Rattle.tx_core.proofs.Basics.{nat_test, nat_same, key_test, cond_true, cond_false}
 use Rattle.tx_core.proofs.view.View.{View, IsCommitted}
 use Rattle.tx_core.proofs.view.Tables.{Sound, has_ended, is_commits}
-use Rattle.tx_core.proofs.changes.Raising.{raising}
+use Rattle.tx_core.proofs.changes.Raises.{raising}
 use Rattle.tx_core.proofs.changes.Sounds.{sound_raise}
 use Rattle.tx_core.proofs.view.Ends.{Ends}
 use Rattle.tx_core.proofs.view.HistoryView.{reads_by, checks_by, reads_in, shown_put, shown_told, shown_in, view}

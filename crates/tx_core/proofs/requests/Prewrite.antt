@@ -39,10 +39,10 @@ use Rattle.tx_core.proofs.Basics.{nat_test, nat_same, key_test, key_same, key_tr
 use Rattle.tx_core.proofs.view.View.{View, Inv, Does, Inserts, declared_does, bound, bound_async}
 use Rattle.tx_core.proofs.view.Tables.{Sound, sees}
 use Rattle.tx_core.proofs.view.Ends.{Ends}
-use Rattle.tx_core.proofs.changes.Raising.{raising}
+use Rattle.tx_core.proofs.changes.Raises.{raising}
 use Rattle.tx_core.proofs.seats.Numbers.{read_upto_start}
-use Rattle.tx_core.proofs.changes.Locking.{accepting, locking, MayLock, may_lock}
-use Rattle.tx_core.proofs.changes.LockingEnds.{ends_lock, lock_opens, lock_decides, ends_lock_decide}
+use Rattle.tx_core.proofs.changes.Locks.{accepting, locking, MayLock, may_lock}
+use Rattle.tx_core.proofs.changes.LockEnds.{ends_lock, lock_opens, lock_decides, ends_lock_decide}
 use Rattle.tx_core.proofs.changes.Sounds.{sound_raise, sound_read, sound_lock, sound_decide}
 use Rattle.tx_core.proofs.view.HistoryView.{noted, checks_by, reads_in, shown_put, shown_in, view}
 use Rattle.tx_core.proofs.requests.Good.{Good, Next, took, same_view, part_same, cells_at, cells_keyed, floor_after, decided_same, true_commit, true_rollback, overtakes}

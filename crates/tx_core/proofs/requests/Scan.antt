@@ -18,9 +18,9 @@ use Rattle.tx_core.specs.Decisions.{decided}
 use Rattle.tx_core.specs.Worlds.{route, Holds}
 use Rattle.tx_core.specs.Shadow.{shadow}
 use Rattle.tx_core.proofs.view.View.{View}
-use Rattle.tx_core.proofs.changes.Raising.{raising}
-use Rattle.tx_core.proofs.changes.Reading.{Passes}
-use Rattle.tx_core.proofs.view.Meeting.{walked_rows, sound_walk}
+use Rattle.tx_core.proofs.changes.Raises.{raising}
+use Rattle.tx_core.proofs.changes.Reads.{Passes}
+use Rattle.tx_core.proofs.view.Reads.{walked_rows, sound_walk}
 use Rattle.tx_core.proofs.view.Tables.{Sound}
 use Rattle.tx_core.proofs.view.HistoryView.{shown_in, view}
 use Rattle.tx_core.proofs.requests.Good.{Good, Next, IsRead, took, cells_at, floor_after, floor_reaches, sound_floor, assemble_read}

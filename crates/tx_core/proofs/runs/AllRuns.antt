@@ -19,10 +19,10 @@ use Rattle.tx_core.specs.Worlds.{Holds, MayTake, MayCome, IsWorldRun}
 use Rattle.tx_core.specs.Shadow.{shadow}
 use Rattle.tx_core.specs.Truth.{HasEnded, EndsBy, IsTrueAnswer}
 use Rattle.tx_core.proofs.view.View.{View}
-use Rattle.tx_core.proofs.changes.Reading.{Passes}
+use Rattle.tx_core.proofs.changes.Reads.{Passes}
 use Rattle.tx_core.proofs.view.Tables.{Shows, ended_decided}
 use Rattle.tx_core.proofs.view.HistoryView.{shown_in, view}
-use Rattle.tx_core.proofs.seats.Staying.{declared_drew}
+use Rattle.tx_core.proofs.seats.Stays.{declared_drew}
 use Rattle.tx_core.proofs.requests.Good.{true_end, Good, Next, took}
 use Rattle.tx_core.proofs.requests.Get.{next_get}
 use Rattle.tx_core.proofs.requests.Scan.{next_scan}

@@ -9,7 +9,7 @@ use Rattle.tx_core.specs.Histories.{History, declared, answered, Among}
 use Rattle.tx_core.specs.Worlds.{MayCome, IsWorldRun}
 use Rattle.tx_core.proofs.Basics.{nat_test, nat_same}
 use Rattle.tx_core.proofs.seats.Beginnings.{begins_all}
-use Rattle.tx_core.proofs.seats.Staying.{answered_on}
+use Rattle.tx_core.proofs.seats.Stays.{answered_on}
 
 -- what its session answered is answered
 is_answered : (h : History) (t : ℕ) (o : Outcome) → Among h (Answered t o) → answered h t ≡ true

@@ -12,7 +12,7 @@ use Rattle.tx_core.specs.ReadMarks.{max_ts}
 use Rattle.tx_core.specs.Recording.{owner, Extends}
 use Rattle.tx_core.specs.Worlds.{IsWorldRun}
 use Rattle.tx_core.proofs.Basics.{nat_test, some_same}
-use Rattle.tx_core.proofs.seats.Answering.{left_on}
+use Rattle.tx_core.proofs.seats.Replies.{left_on}
 use Rattle.tx_core.proofs.seats.Beginnings.{extends_begins}
 use Rattle.tx_core.proofs.seats.Numbers.{left_upto}
 

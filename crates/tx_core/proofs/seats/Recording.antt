@@ -19,9 +19,9 @@ use Rattle.tx_core.specs.Worlds.{Holds, MayAnswer, IsWorldRun}
 use Rattle.tx_core.specs.Recording.{owner, Extends, MayRecord}
 use Rattle.tx_core.proofs.Basics.{nat_test, is_some}
 use Rattle.tx_core.proofs.seats.Beginnings.{other_run_on, extends_begins, extends_more}
-use Rattle.tx_core.proofs.seats.Staying.{last_on, was_last_on, was_last_upto, drawer_next, drawer_on, drawer_new, drew_since_on, declared_drew, began_on, began_drawn}
+use Rattle.tx_core.proofs.seats.Stays.{last_on, was_last_on, was_last_upto, drawer_next, drawer_on, drawer_new, drew_since_on, declared_drew, began_on, began_drawn}
 use Rattle.tx_core.proofs.seats.StaysAllowed.{allowed_on}
-use Rattle.tx_core.proofs.seats.Answering.{left_on, answers_later, may_answer_on}
+use Rattle.tx_core.proofs.seats.Replies.{left_on, answers_later, may_answer_on}
 
 -- ---- what the seat that drew a start has not done, nobody does
 

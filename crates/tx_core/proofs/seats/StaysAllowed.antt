@@ -11,7 +11,7 @@ use Rattle.tx_core.specs.Worlds.{IsWorldRun}
 use Rattle.tx_core.proofs.Basics.{some_of, is_some}
 use Rattle.tx_core.proofs.view.View.{first_declared}
 use Rattle.tx_core.proofs.seats.Beginnings.{begins_append}
-use Rattle.tx_core.proofs.seats.Staying.{declared_on}
+use Rattle.tx_core.proofs.seats.Stays.{declared_on}
 use Rattle.tx_core.proofs.seats.StaysDecided.{decided_on, two_phase_on, shown_on, all_accepted_on, drew_on}
 
 module _ (bounds : List Key) (l h : History) (run : IsWorldRun bounds h) (b : Begins l h) where

@@ -12,7 +12,7 @@ use Rattle.tx_core.specs.Allowed.{DrewAfterAll}
 use Rattle.tx_core.specs.Worlds.{IsWorldRun}
 use Rattle.tx_core.proofs.Basics.{some_of, some_same, is_some}
 use Rattle.tx_core.proofs.seats.Beginnings.{kept_on}
-use Rattle.tx_core.proofs.seats.Staying.{drawer_on, set_on, accepted_on, among_on}
+use Rattle.tx_core.proofs.seats.Stays.{drawer_on, set_on, accepted_on, among_on}
 
 -- a decision stands
 decided_next : (h : History) (e : Event) (t : ℕ) (end : Fate) → decided h t ≡ Done end → decided (e ∷ h) t ≡ Done end

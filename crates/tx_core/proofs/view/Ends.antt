@@ -13,9 +13,9 @@ use Rattle.tx_core.specs.Histories.{set_of, is_first}
 use Rattle.tx_core.specs.Decisions.{Acceptance, greatest}
 use Rattle.tx_core.proofs.Basics.{nat_test, cond_false, some_same, some_of}
 use Rattle.tx_core.proofs.view.View.{View, Inv, IsPrimary, IsCommitted, IsAborted, Accepts, FellBack, one_first, does_declared, does_within}
-use Rattle.tx_core.proofs.changes.Declaring.{declaring}
+use Rattle.tx_core.proofs.changes.Declarations.{declaring}
 use Rattle.tx_core.proofs.changes.Keyed.{keyed, at_cells}
-use Rattle.tx_core.proofs.changes.Deciding.{greatest_each, greatest_some}
+use Rattle.tx_core.proofs.changes.Commits.{greatest_each, greatest_some}
 
 -- a key of the transaction is not accepted and never will be: its rollback stands there, or it
 -- started below the collection

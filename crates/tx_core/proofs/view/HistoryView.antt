@@ -18,9 +18,9 @@ use Rattle.tx_core.specs.Worlds.{route}
 use Rattle.tx_plan.specs.cases.Prewrite.{check_by}
 use Rattle.tx_core.specs.Truth.{scan_read}
 use Rattle.tx_machine.specs.Keys.{covered}
-use Rattle.tx_core.proofs.changes.Drawing.{drawing}
-use Rattle.tx_core.proofs.changes.Beginning.{beginning}
-use Rattle.tx_core.proofs.changes.Declaring.{declaring}
+use Rattle.tx_core.proofs.changes.Draws.{drawing}
+use Rattle.tx_core.proofs.changes.Begins.{beginning}
+use Rattle.tx_core.proofs.changes.Declarations.{declaring}
 use Rattle.tx_core.proofs.view.Tables.{Sound}
 use Rattle.tx_core.proofs.view.Ends.{Ends}
 

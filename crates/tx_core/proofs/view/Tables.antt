@@ -22,8 +22,8 @@ use Rattle.tx_machine.specs.declared.step.Step.{Step}
 use Rattle.tx_machine.specs.Machine.{Row, Table, Commits, Newest, NoneBetween, Sees, MayCommit, table_of, IsRun}
 use Rattle.tx_plan.specs.Reads.{NoneWritten, Finds, Reads}
 use Rattle.tx_core.specs.Truth.{HasEnded, IsOpen, IsToldLock}
-use Rattle.tx_core.proofs.changes.Reading.{Unblocked}
-use Rattle.tx_core.proofs.changes.Deciding.{CanDecide}
+use Rattle.tx_core.proofs.changes.Reads.{Unblocked}
+use Rattle.tx_core.proofs.changes.Commits.{CanDecide}
 
 -- the write set of a declaration
 abbrev pub changes_of : Option Declaration → Option (List Change)

@@ -2,7 +2,7 @@
 ghost use Rattle.std.specs.Prelude.{◌≡◌};
 
 use crate::calls::{Came, Op, perform};
-use crate::others::found;
+use crate::others::met_by;
 use crate::planning_tests::planner::{Handling, Planner};
 use crate::table_tests::shown::{Short, Word, answered, is};
 use std::alloc::Global;
@@ -10,6 +10,8 @@ use tx_cells::{Families, Makes};
 use tx_client::{Miss, Session};
 use tx_core::Answer;
 use tx_journal::{JournalId, Opened, Seat};
+use tx_simple::resolve_met;
+use tx_types::Ts;
 
 /// Which session, how its request is handled, what it does, and what it hears. Sessions have their
 /// numbers by the order in which they begin. What the region collects, and that its safe point is
@@ -24,6 +26,7 @@ pub const SILENT: Short = (Word::Silent, 0, 0);
 pub type Played = (bool, Short, u32, u32);
 
 // The seat of the resolver, the seats of sessions before they begin, and the sessions.
+#[derive(Drop)]
 struct Seats<J: JournalId> {
     resolver: Seat<J>,
     free: Vec<Seat<J>>,
@@ -58,8 +61,9 @@ fn resolve<J: JournalId, F: Families + Drop>(
     planner: &mut Planner<J, F>,
 ) {
     planner.show();
-    if let Ok(Some(met)) = session.met() {
-        drop(found(resolver, met, session.start(), now, planner));
+    if let Some(met) = met_by(session) {
+        let now = Ts::new(now);
+        drop(resolve_met(resolver, met, session.start(), now, planner));
     }
 }
 
@@ -135,6 +139,20 @@ fn plays<J: JournalId, F: Families + Drop>(
     true
 }
 
+// What comes of the steps in a region.
+fn played_in<J: JournalId, F: Families + Drop>(
+    alloc: Global,
+    mut planner: Planner<J, F>,
+    mut seats: Seats<J>,
+    steps: &[Step],
+) -> Played {
+    let right = plays(alloc, &mut planner, &mut seats, steps);
+    drop(seats);
+    let (between, stales, refused) = planner.came();
+    drop(planner);
+    (right, between, stales, refused)
+}
+
 /// What comes of the steps, in a region in which nothing happened, over families that are made so.
 pub fn played<J: JournalId, F: Families + Drop, M: Makes<F>>(
     alloc: Global,
@@ -151,23 +169,11 @@ pub fn played<J: JournalId, F: Families + Drop, M: Makes<F>>(
     };
     let of = seats.swap_remove(0);
     let seat = seats.swap_remove(0);
-    let resolver = seats.swap_remove(0);
-    let mut planner: Planner<J, F> = Planner::new(alloc, journal, of, seat, families)?;
-    let mut seats = Seats {
-        resolver,
+    let free = Seats {
+        resolver: seats.swap_remove(0),
         free: seats,
         sessions: Vec::new(alloc),
     };
-    let right = plays(alloc, &mut planner, &mut seats, steps);
-    let (between, stales, refused) = planner.came();
-    let Seats {
-        resolver,
-        free,
-        sessions,
-    } = seats;
-    drop(resolver);
-    drop(free);
-    drop(sessions);
-    drop(planner);
-    Some((right, between, stales, refused))
+    let planner: Planner<J, F> = Planner::new(alloc, journal, of, seat, families)?;
+    Some(played_in(alloc, planner, free, steps))
 }

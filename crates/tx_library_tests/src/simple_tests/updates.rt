@@ -1,292 +1,29 @@
 //! Updates that go well, are tried again, or stop.
 ghost use Rattle.std.specs.Prelude.{◌≡◌, length};
 
-use crate::simple_tests::opening::{journal, open, pair};
+use crate::simple_tests::cases::{Before, CASES, Case};
 use crate::simple_tests::orphan::leave_lock;
-use crate::simple_tests::works::{Contended, Deed, Doing, run};
+use crate::simple_tests::works::{Contended, Deed, Doing, next_seats, run};
+use crate::stores::{open, two_regions};
 use std::alloc::Global;
 use std::marker::Brand;
 use std::sync::Wait;
 use std::test::Fail;
-use tx_harness::{Delivery, Faulty};
+use tx_cells::{Families, Fresh};
+use tx_harness::Faulty;
 use tx_journal::{JournalId, Opened, Seat};
 use tx_nested::NestedCells;
 use tx_simple::Seats;
 use tx_store::{Store, Wire};
 use tx_types::Mode;
 
-// What stands in the store when an update begins.
-#[derive(Clone, Copy, PartialEq, Eq)]
-enum Before {
-    // Nothing.
-    Empty,
-    // The value 5 on the key `a`.
-    Value,
-    // A lock on the key `a`, in two phases, that lives so many ticks and whose session is gone.
-    Lock(u32),
-    // Nothing; in the first try a rival puts 9 on the key `a`.
-    Rival,
-}
-
-// One case: what stands there; after how many requests one fares how; what is done, in which mode,
-// and how often it is tried again; then how it ends, how often it was done, and what the key `a`
-// has in the end, 0 for no value.
-#[derive(Clone, Copy)]
-struct Case(
-    Before,
-    (u32, Delivery),
-    (Deed, Mode),
-    u32,
-    (&'static str, &'static str),
-    u32,
-    u8,
-);
-
-const PLAIN: (u32, Delivery) = (0, Delivery::Plain);
-
-const CASES: [Case; 25] = [
-    // It goes well at once.
-    Case(
-        Before::Empty,
-        PLAIN,
-        (Deed::Put(1), Mode::TwoPhase),
-        0,
-        ("committed", "done"),
-        1,
-        1,
-    ),
-    Case(
-        Before::Empty,
-        PLAIN,
-        (Deed::PutBoth(1), Mode::Async),
-        0,
-        ("committed", "done"),
-        1,
-        1,
-    ),
-    Case(
-        Before::Empty,
-        PLAIN,
-        (Deed::Insert(1), Mode::Async),
-        0,
-        ("committed", "done"),
-        1,
-        1,
-    ),
-    Case(
-        Before::Value,
-        PLAIN,
-        (Deed::Read, Mode::Async),
-        0,
-        ("read-only", "done"),
-        1,
-        5,
-    ),
-    // A conflict is tried again, as often as it may be.
-    Case(
-        Before::Rival,
-        PLAIN,
-        (Deed::Put(1), Mode::TwoPhase),
-        0,
-        ("aborted", "conflict"),
-        1,
-        9,
-    ),
-    Case(
-        Before::Rival,
-        PLAIN,
-        (Deed::Put(1), Mode::TwoPhase),
-        1,
-        ("committed", "done"),
-        2,
-        1,
-    ),
-    Case(
-        Before::Rival,
-        PLAIN,
-        (Deed::PutBoth(1), Mode::Async),
-        3,
-        ("committed", "done"),
-        2,
-        1,
-    ),
-    // One that does not go on is not.
-    Case(
-        Before::Rival,
-        PLAIN,
-        (Deed::PutOnce(1), Mode::TwoPhase),
-        3,
-        ("aborted", "conflict"),
-        1,
-        9,
-    ),
-    // What it gives up, or what a later try does not help, is not.
-    Case(
-        Before::Empty,
-        PLAIN,
-        (Deed::GiveUp, Mode::Async),
-        3,
-        ("read-only", "gave up"),
-        1,
-        0,
-    ),
-    Case(
-        Before::Value,
-        PLAIN,
-        (Deed::Insert(1), Mode::Async),
-        3,
-        ("aborted", "exists"),
-        1,
-        5,
-    ),
-    // A lock past its time is rolled back; one that lives is waited for by a write, and passed by a
-    // read.
-    Case(
-        Before::Lock(0),
-        PLAIN,
-        (Deed::Put(1), Mode::TwoPhase),
-        0,
-        ("committed", "done"),
-        1,
-        1,
-    ),
-    Case(
-        Before::Lock(100),
-        PLAIN,
-        (Deed::Put(1), Mode::TwoPhase),
-        2,
-        ("aborted", "waits"),
-        3,
-        0,
-    ),
-    Case(
-        Before::Lock(100),
-        PLAIN,
-        (Deed::Read, Mode::TwoPhase),
-        0,
-        ("read-only", "done"),
-        1,
-        0,
-    ),
-    // A request is lost: it is aborted, and tried again.
-    Case(
-        Before::Empty,
-        (0, Delivery::Lose),
-        (Deed::Put(1), Mode::TwoPhase),
-        0,
-        ("aborted", "lost"),
-        1,
-        0,
-    ),
-    Case(
-        Before::Empty,
-        (0, Delivery::Lose),
-        (Deed::Put(1), Mode::TwoPhase),
-        1,
-        ("committed", "done"),
-        2,
-        1,
-    ),
-    // The reply that decides is lost: it is asked for.
-    Case(
-        Before::Empty,
-        (1, Delivery::LoseReply),
-        (Deed::Put(1), Mode::TwoPhase),
-        1,
-        ("committed", "lost"),
-        1,
-        1,
-    ),
-    Case(
-        Before::Empty,
-        (0, Delivery::LoseReply),
-        (Deed::Put(1), Mode::Async),
-        1,
-        ("committed", "lost"),
-        1,
-        1,
-    ),
-    // A request is taken twice: it is answered as before.
-    Case(
-        Before::Empty,
-        (0, Delivery::Repeat),
-        (Deed::Put(1), Mode::TwoPhase),
-        0,
-        ("committed", "done"),
-        1,
-        1,
-    ),
-    Case(
-        Before::Empty,
-        (1, Delivery::Repeat),
-        (Deed::Put(1), Mode::TwoPhase),
-        0,
-        ("committed", "done"),
-        1,
-        1,
-    ),
-    Case(
-        Before::Empty,
-        (0, Delivery::Repeat),
-        (Deed::Insert(1), Mode::Async),
-        0,
-        ("committed", "done"),
-        1,
-        1,
-    ),
-    // A prewrite or a commit that comes after the rollback that its sender asked for changes nothing.
-    Case(
-        Before::Empty,
-        (0, Delivery::Late),
-        (Deed::Put(1), Mode::TwoPhase),
-        1,
-        ("committed", "done"),
-        2,
-        1,
-    ),
-    Case(
-        Before::Empty,
-        (0, Delivery::Late),
-        (Deed::Put(1), Mode::Async),
-        0,
-        ("aborted", "lost"),
-        1,
-        0,
-    ),
-    Case(
-        Before::Empty,
-        (1, Delivery::Late),
-        (Deed::Put(1), Mode::TwoPhase),
-        0,
-        ("aborted", "lost"),
-        1,
-        0,
-    ),
-    // Memory is refused.
-    Case(
-        Before::Empty,
-        (0, Delivery::Refuse),
-        (Deed::Put(1), Mode::Async),
-        3,
-        ("aborted", "refused"),
-        1,
-        0,
-    ),
-    Case(
-        Before::Value,
-        (0, Delivery::Refuse),
-        (Deed::Read, Mode::Async),
-        3,
-        ("read-only", "refused"),
-        1,
-        5,
-    ),
-];
+// How an update ends, in words, how often it was done, and the seats.
+type Ended<J> = ((&'static str, &'static str), u32, Seats<J>);
 
 // What the key `a` has.
-fn last_of<J: JournalId, R: Wait>(
+fn last_of<J: JournalId, F: Families + Drop, R: Wait>(
     rt: &R,
-    store: &Store<J, NestedCells>,
+    store: &Store<J, F>,
     alloc: Global,
     seats: Seats<J>,
 ) -> Option<u8> {
@@ -297,60 +34,53 @@ fn last_of<J: JournalId, R: Wait>(
 }
 
 // Puts 5 on the key `a`.
-fn put_value<J: JournalId, R: Wait>(
+fn put_value<J: JournalId, F: Families + Drop, R: Wait>(
     rt: &R,
-    store: &Store<J, NestedCells>,
+    store: &Store<J, F>,
     alloc: Global,
     seats: Seats<J>,
-) -> Option<Seats<J>> {
+) -> Option<()> {
     let mut wire = Wire::new(rt, store);
     let mut put = Doing::new(Deed::Put(5));
-    let (_, seats) = run(alloc, seats, (Mode::TwoPhase, 10), 0, &mut put, &mut wire)?;
-    Some(seats)
+    drop(run(alloc, seats, (Mode::TwoPhase, 10), 0, &mut put, &mut wire)?);
+    Some(())
 }
 
-// What stands there before; the seats of a rival are left.
-fn prepare<J: JournalId, R: Wait>(
+// What stands there before; a rival has not come yet.
+fn prepare<J: JournalId, F: Families + Drop, R: Wait>(
     rt: &R,
-    store: &Store<J, NestedCells>,
+    store: &Store<J, F>,
     alloc: Global,
-    seats: Seats<J>,
+    seats: &mut Vec<Seat<J>>,
     before: Before,
-) -> Option<Option<Seats<J>>> {
+) -> Option<()> {
     match before {
-        Before::Empty => {
-            drop(seats);
-            Some(None)
-        }
-        Before::Value => {
-            drop(put_value(rt, store, alloc, seats)?);
-            Some(None)
-        }
-        Before::Lock(ttl) => {
-            let Seats { begins, resolves } = seats;
-            drop(resolves);
-            drop(leave_lock(rt, store, alloc, begins, ttl)?);
-            Some(None)
-        }
-        Before::Rival => Some(Some(seats)),
+        Before::Empty | Before::Rival => Some(()),
+        Before::Value => put_value(rt, store, alloc, next_seats(seats)?),
+        Before::Lock(ttl) => leave_lock(rt, store, alloc, seats.pop()?, ttl),
     }
 }
 
-// Runs the update of a case: how it ends, how often it was done, and the seats.
-fn update_in<J: JournalId, R: Wait>(
+// The seats of the rival, where there is one.
+fn rival_of<J: JournalId>(seats: &mut Vec<Seat<J>>, before: Before) -> Option<Seats<J>> {
+    if before == Before::Rival {
+        return next_seats(seats);
+    }
+    None
+}
+
+// Runs the update of a case, by requests that are sent so.
+fn update_by<J: JournalId, F: Families + Drop, R: Wait>(
     rt: &R,
-    store: &Store<J, NestedCells>,
+    store: &Store<J, F>,
     alloc: Global,
-    own: (Seats<J>, Seat<J>),
-    rival: Option<Seats<J>>,
+    seats: &mut Vec<Seat<J>>,
     case: &Case,
-) -> Option<((&'static str, &'static str), u32, Seats<J>)> {
-    let (seats, seat) = own;
-    let Case(_, (spared, delivery), (deed, mode), again, _, _, _) = *case;
-    let mut sender = Faulty::new(Wire::new(rt, store), seat);
-    sender.set_delivery(delivery);
-    sender.skip(spared);
-    sender.show();
+    sender: &mut Faulty<'_, J, F, R>,
+) -> Option<Ended<J>> {
+    let Case(before, _, (deed, mode), again, _, _, _) = *case;
+    let own = next_seats(seats)?;
+    let rival = rival_of(seats, before);
     let mut work = Contended {
         rt,
         store,
@@ -358,44 +88,67 @@ fn update_in<J: JournalId, R: Wait>(
         rival,
         doing: Doing::new(deed),
     };
-    let (ends, seats) = run(alloc, seats, (mode, 10), again, &mut work, &mut sender)?;
-    Some((ends, work.doing.calls, seats))
+    sender.show();
+    let ended = run(alloc, own, (mode, 10), again, &mut work, sender);
+    let calls = work.doing.calls;
+    drop(work);
+    let (ends, own) = ended?;
+    Some((ends, calls, own))
+}
+
+// Runs the update of a case.
+fn update_in<J: JournalId, F: Families + Drop, R: Wait>(
+    rt: &R,
+    store: &Store<J, F>,
+    alloc: Global,
+    seats: &mut Vec<Seat<J>>,
+    case: &Case,
+) -> Option<Ended<J>> {
+    let mut sender = Faulty::new(Wire::new(rt, store), seats.pop()?);
+    sender.set_delivery(case.1.1);
+    sender.skip(case.1.0);
+    let ended = update_by(rt, store, alloc, seats, case, &mut sender);
+    drop(sender);
+    ended
 }
 
 // Whether a case ends as it says.
-fn ends_so<J: JournalId, R: Wait>(
+fn ends_so<J: JournalId, F: Families + Drop, R: Wait>(
     rt: &R,
-    store: &Store<J, NestedCells>,
+    store: &Store<J, F>,
     alloc: Global,
-    mut seats: Vec<Seat<J>>,
+    seats: &mut Vec<Seat<J>>,
     case: &Case,
 ) -> Option<bool> {
     let Case(before, _, _, _, ends, calls, last) = *case;
-    let rival = prepare(rt, store, alloc, pair(&mut seats)?, before)?;
-    let seat = seats.pop()?;
-    let own = pair(&mut seats)?;
-    drop(seats);
-    let (ended, done, own) = update_in(rt, store, alloc, (own, seat), rival, case)?;
+    prepare(rt, store, alloc, seats, before)?;
+    let (ended, done, own) = update_in(rt, store, alloc, seats, case)?;
     let found = last_of(rt, store, alloc, own)?;
     Some(ended == ends && done == calls && found == last)
 }
 
-fn plays<J: JournalId, R: Wait>(rt: &R, alloc: Global, opened: Opened, case: &Case) -> Option<bool>
+fn plays<J: JournalId, F: Fresh, R: Wait>(
+    rt: &R,
+    alloc: Global,
+    opened: Opened,
+    case: &Case,
+) -> Option<bool>
     requires name { (opened.table ≡ J.table) × (opened.bounds ≡ J.bounds) × (opened.seats ≡ J.seats) }
     requires two { length J.bounds ≡ 1 }
 {
-    let (store, seats) = open::<J>(alloc, opened)?;
-    let is = ends_so(rt, &store, alloc, seats, case);
+    let (store, mut seats) = open::<J, F>(alloc, opened)?;
+    let is = ends_so(rt, &store, alloc, &mut seats, case);
+    drop(seats);
     drop(store);
     is
 }
 
 // A store of its own for each case.
 fn holds<R: Wait>(rt: &R, alloc: Global, case: &Case) -> bool {
-    let Some(opened) = journal(alloc) else {
+    let Some(opened) = two_regions(alloc, b"m", 6) else {
         return false;
     };
-    plays::<Brand, R>(rt, alloc, opened, case) == Some(true)
+    plays::<Brand, NestedCells, R>(rt, alloc, opened, case) == Some(true)
 }
 
 #[test]

@@ -1,15 +1,17 @@
 //! What the updates of these tests do.
 ghost use Rattle.tx_journal.specs.Senders.{IsSender};
 
+use crate::calls::pair_of;
+use crate::stores::pair;
 use std::alloc::Global;
 use std::sync::Wait;
+use tx_cells::Families;
 use tx_client::Terms;
 use tx_core::Outcome;
-use tx_journal::{JournalId, Reply, Request, Sender};
-use tx_nested::NestedCells;
+use tx_journal::{JournalId, Reply, Request, Seat, Sender};
 use tx_simple::{Failure, Seats, Stop, Tx, Work, update};
 use tx_store::{Store, Wire};
-use tx_types::{Key, Mode, Value};
+use tx_types::{Key, Mode};
 
 /// What it does with the key `a`, or to it.
 #[derive(Clone, Copy, PartialEq, Eq)]
@@ -52,14 +54,12 @@ impl Doing {
 }
 
 fn put<T: Tx>(tx: &mut T, key: &[u8], byte: u8) -> Result<(), Stop> {
-    let key = Key::new(tx.alloc(), key)?;
-    let value = Value::new(tx.alloc(), &[byte])?;
+    let (key, value) = pair_of(tx.alloc(), key, &[byte])?;
     tx.put(key, value)
 }
 
 fn insert<T: Tx>(tx: &mut T, byte: u8) -> Result<(), Stop> {
-    let key = Key::new(tx.alloc(), b"a")?;
-    let value = Value::new(tx.alloc(), &[byte])?;
+    let (key, value) = pair_of(tx.alloc(), b"a", &[byte])?;
     tx.insert(key, value)
 }
 
@@ -99,15 +99,15 @@ impl Work for Doing {
 /// A deed that the first time lets a rival put 9 on the key `a`, and commit that, before it is
 /// done.
 #[derive(Drop)]
-pub struct Contended<'a, J: JournalId, R: Wait> {
+pub struct Contended<'a, J: JournalId, F: Families + Drop, R: Wait> {
     pub rt: &'a R,
-    pub store: &'a Store<J, NestedCells>,
+    pub store: &'a Store<J, F>,
     pub alloc: Global,
     pub rival: Option<Seats<J>>,
     pub doing: Doing,
 }
 
-impl<'a, J: JournalId, R: Wait> Work for Contended<'a, J, R> {
+impl<'a, J: JournalId, F: Families + Drop, R: Wait> Work for Contended<'a, J, F, R> {
     type Out = ();
 
     type Err = GaveUp;
@@ -159,6 +159,12 @@ fn word(stop: &Stop) -> &'static str {
         Stop::Lost => "lost",
         Stop::Refused(_) => "refused",
     }
+}
+
+/// The next two seats, for an update.
+pub fn next_seats<J: JournalId>(seats: &mut Vec<Seat<J>>) -> Option<Seats<J>> {
+    let (begins, resolves) = pair(seats)?;
+    Some(Seats { begins, resolves })
 }
 
 /// Runs an update in this mode, with locks that live so long, and tries it again so often: how

@@ -1,21 +1,22 @@
 //! Two threads add to one key, each by transactions of its own: no addition is lost.
 ghost use Rattle.std.specs.Prelude.{◌≡◌, length};
 
+use crate::calls::get;
 use crate::store_tests::sessions::{commit, declare, enter, prewrite};
+use crate::stores::{open, pair, two_regions};
 use std::alloc::Global;
 use std::marker::Brand;
 use std::sync::Wait;
 use std::test::Fail;
 use std::thread::{Threads, join};
-use tx_cells::{Families, Fresh, Plain};
+use tx_cells::{Families, Fresh};
 use tx_client::Session;
 use tx_core::Answer;
 use tx_flat::FlatCells;
-use tx_harness::{one_bound, open};
 use tx_journal::{JournalId, Opened, Seat};
 use tx_nested::NestedCells;
 use tx_store::{Store, Wire};
-use tx_types::{Key, Mode};
+use tx_types::Mode;
 
 /// How often each thread tries to add one.
 const ROUNDS: u32 = 2_000;
@@ -41,10 +42,8 @@ fn number<J: JournalId, F: Families + Drop, R: Wait>(
     alloc: Global,
     wire: &mut Wire<J, F, R>,
 ) -> Option<u32> {
-    let key = Key::new(alloc, b"a").ok()?;
-    let answer = session.get(&key, wire).ok();
-    drop(key);
-    let answer = answer?;
+    wire.show();
+    let answer = get(alloc, session, b"a", wire).ok()?;
     let number = number_of(&answer);
     drop(answer);
     number
@@ -144,10 +143,10 @@ fn adds<J: JournalId + Send + Sync, F: Fresh + Send, R: Threads + Wait + Sync>(
     requires name { (opened.table ≡ J.table) × (opened.bounds ≡ J.bounds) × (opened.seats ≡ J.seats) }
     requires two { length J.bounds ≡ 1 }
 {
-    let (store, mut seats) = open::<J, F, Plain>(alloc, opened, &Plain, 2)?;
-    let counts = match (seats.pop(), seats.pop()) {
-        (Some(two), Some(one)) => add_at_once(rt, &store, alloc, one, two),
-        _ => None,
+    let (store, mut seats) = open::<J, F>(alloc, opened)?;
+    let counts = match pair(&mut seats) {
+        Some((one, two)) => add_at_once(rt, &store, alloc, one, two),
+        None => None,
     };
     drop(store);
     counts
@@ -155,10 +154,7 @@ fn adds<J: JournalId + Send + Sync, F: Fresh + Send, R: Threads + Wait + Sync>(
 
 // Whether some additions committed, and each of them counts.
 fn keeps_each<F: Fresh + Send, R: Threads + Wait + Sync>(rt: &R, alloc: Global) -> bool {
-    let Some(bounds) = one_bound(alloc, b"m") else {
-        return false;
-    };
-    let Ok(opened) = Opened::new(alloc, bounds, 2) else {
+    let Some(opened) = two_regions(alloc, b"m", 2) else {
         return false;
     };
     match adds::<Brand, F, R>(rt, alloc, opened) {

@@ -6,16 +6,17 @@ mod chased;
 
 use crate::store_tests::chase::chased::Chase;
 use crate::store_tests::sessions::{declare, enter};
+use crate::stores::{pair, two_regions};
 use std::alloc::Global;
 use std::marker::Brand;
 use std::sync::{Arc, Wait};
 use std::test::Fail;
 use std::thread::{Threads, join};
-use tx_cells::Fresh;
+use tx_cells::{Families, Fresh};
 use tx_client::Session;
 use tx_core::Answer;
 use tx_flat::FlatCells;
-use tx_harness::{Watched, one_bound, open};
+use tx_harness::{Watched, open};
 use tx_journal::{JournalId, Opened, Seat};
 use tx_nested::NestedCells;
 use tx_store::{Store, Wire};
@@ -25,9 +26,9 @@ use tx_types::{Key, Mode};
 const TURNS: u64 = 10_000_000;
 
 // Begins, and reads a key of the other region.
-fn read<J: JournalId, F: Fresh, R: Wait>(
+fn read<J: JournalId, F: Families + Drop, R: Wait>(
     rt: &R,
-    store: &Store<J, Watched<F, Chase>>,
+    store: &Store<J, F>,
     alloc: Global,
     seat: Seat<J>,
 ) -> Option<Seat<J>> {
@@ -41,9 +42,9 @@ fn read<J: JournalId, F: Fresh, R: Wait>(
 }
 
 // Reads until the other thread is done.
-fn read_on<J: JournalId, F: Fresh, R: Wait>(
+fn read_on<J: JournalId, F: Families + Drop, R: Wait>(
     rt: &R,
-    store: &Store<J, Watched<F, Chase>>,
+    store: &Store<J, F>,
     alloc: Global,
     mut seat: Seat<J>,
     chase: &Chase,
@@ -68,9 +69,9 @@ fn promised(answer: &Answer) -> Option<u64> {
 }
 
 // Prewrites a key asynchronously: the minimum that its lock promises.
-fn prewrite<J: JournalId, F: Fresh, R: Wait>(
+fn prewrite<J: JournalId, F: Families + Drop, R: Wait>(
     rt: &R,
-    store: &Store<J, Watched<F, Chase>>,
+    store: &Store<J, F>,
     alloc: Global,
     seat: Seat<J>,
 ) -> Option<u64> {
@@ -89,9 +90,9 @@ fn prewrite<J: JournalId, F: Fresh, R: Wait>(
 }
 
 // One prewrites, and then the other is done.
-fn prewrite_and_end<J: JournalId, F: Fresh, R: Wait>(
+fn prewrite_and_end<J: JournalId, F: Families + Drop, R: Wait>(
     rt: &R,
-    store: &Store<J, Watched<F, Chase>>,
+    store: &Store<J, F>,
     alloc: Global,
     seat: Seat<J>,
     chase: &Chase,
@@ -103,14 +104,14 @@ fn prewrite_and_end<J: JournalId, F: Fresh, R: Wait>(
 
 fn chase_at_once<J, F, R>(
     rt: &R,
-    store: &Store<J, Watched<F, Chase>>,
+    store: &Store<J, F>,
     alloc: Global,
     (one, two): (Seat<J>, Seat<J>),
     chase: &Chase,
 ) -> Option<u64>
 where
     J: JournalId + Send + Sync,
-    F: Fresh + Send,
+    F: Families + Drop + Send,
     R: Threads + Wait + Sync,
 {
     let (minimum, read) = join(
@@ -132,9 +133,9 @@ fn chases<J: JournalId + Send + Sync, F: Fresh + Send, R: Threads + Wait + Sync>
     requires two { length J.bounds ≡ 1 }
 {
     let (store, mut seats) = open::<J, Watched<F, Chase>, Arc<Chase>>(alloc, opened, chase, 2)?;
-    let minimum = match (seats.pop(), seats.pop()) {
-        (Some(two), Some(one)) => chase_at_once(rt, &store, alloc, (one, two), chase),
-        _ => None,
+    let minimum = match pair(&mut seats) {
+        Some(both) => chase_at_once(rt, &store, alloc, both, chase),
+        None => None,
     };
     drop(store);
     minimum
@@ -145,9 +146,8 @@ fn chase_over<F: Fresh + Send, R: Threads + Wait + Sync>(
     rt: &R,
     alloc: Global,
 ) -> Option<(u64, u64)> {
-    let bounds = one_bound(alloc, b"m")?;
-    let opened = Opened::new(alloc, bounds, 2).ok()?;
     let chase = Arc::new(alloc, Chase::new(TURNS)).ok()?;
+    let opened = two_regions(alloc, b"m", 2)?;
     let minimum = chases::<Brand, F, R>(rt, alloc, opened, &chase);
     let looks = chase.looks();
     drop(chase);

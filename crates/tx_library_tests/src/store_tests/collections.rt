@@ -4,16 +4,16 @@
 ghost use Rattle.std.specs.Prelude.{◌≡◌, ◌<◌, length};
 
 use crate::store_tests::sessions::{commit, declare, enter, prewrite};
+use crate::stores::{open, pair, two_regions};
 use std::alloc::Global;
 use std::marker::Brand;
 use std::sync::Wait;
 use std::test::Fail;
 use std::thread::{Threads, join};
-use tx_cells::{Families, Fresh, Plain};
+use tx_cells::{Families, Fresh};
 use tx_client::Session;
 use tx_core::Answer;
 use tx_flat::FlatCells;
-use tx_harness::{one_bound, open};
 use tx_journal::{JournalId, Opened, Seat};
 use tx_nested::NestedCells;
 use tx_resolve::gc;
@@ -146,7 +146,49 @@ fn collect_on<J: JournalId, F: Families + Drop, R: Wait>(
     true
 }
 
-// What the four threads find, with these seats.
+// Two threads read on.
+fn read_both<J, F, R>(
+    rt: &R,
+    store: &Store<J, F>,
+    alloc: Global,
+    (one, two): (Seat<J>, Seat<J>),
+) -> bool
+where
+    J: JournalId + Send + Sync,
+    F: Families + Drop + Send,
+    R: Threads + Wait + Sync,
+{
+    let (first, second) = join(
+        rt,
+        || read_on(rt, store, alloc, one),
+        || read_on(rt, store, alloc, two),
+    );
+    first && second
+}
+
+// One thread puts on, and one collects on.
+fn put_and_collect<J, F, R>(
+    rt: &R,
+    store: &Store<J, F>,
+    alloc: Global,
+    seats: (Seat<J>, Seat<J>),
+) -> bool
+where
+    J: JournalId + Send + Sync,
+    F: Families + Drop + Send,
+    R: Threads + Wait + Sync,
+    requires few { length J.bounds < 1024 }
+{
+    let (one, two) = seats;
+    let (committed, collected) = join(
+        rt,
+        || put_on(rt, store, alloc, one),
+        || collect_on(rt, store, two),
+    );
+    collected && committed.is_some()
+}
+
+// Whether the four threads find what they may, with these seats.
 fn side_by_side<J, F, R>(
     rt: &R,
     store: &Store<J, F>,
@@ -160,34 +202,20 @@ where
     R: Threads + Wait + Sync,
     requires few { length J.bounds < 1024 }
 {
-    let (one, two) = readers;
-    let (three, four) = others;
-    let ((first, second), (committed, collected)) = join(
+    let (read, collected) = join(
         rt,
-        || {
-            join(
-                rt,
-                || read_on(rt, store, alloc, one),
-                || read_on(rt, store, alloc, two),
-            )
-        },
-        || {
-            join(
-                rt,
-                || put_on(rt, store, alloc, three),
-                || collect_on(rt, store, four),
-            )
-        },
+        || read_both(rt, store, alloc, readers),
+        || put_and_collect(rt, store, alloc, others),
     );
-    first && second && collected && committed.is_some()
+    read && collected
 }
 
-// Seeds a key, and has four threads at the store.
+// Seeds a key, and has four threads of their own seats at the store.
 fn run_over<J, F, R>(
     rt: &R,
     store: &Store<J, F>,
     alloc: Global,
-    mut seats: Vec<Seat<J>>,
+    seats: &mut Vec<Seat<J>>,
 ) -> Option<bool>
 where
     J: JournalId + Send + Sync,
@@ -195,15 +223,14 @@ where
     R: Threads + Wait + Sync,
     requires few { length J.bounds < 1024 }
 {
-    let one = seats.pop()?;
-    let two = seats.pop()?;
-    let three = seats.pop()?;
-    let four = seats.pop()?;
-    let (is_seeded, one) = put(rt, store, alloc, one, (b"a", b"seed"))?;
-    Some(is_seeded && side_by_side(rt, store, alloc, (one, two), (three, four)))
+    let (is_seeded, seat) = put(rt, store, alloc, seats.pop()?, (b"a", b"seed"))?;
+    drop(seat);
+    let readers = pair(seats)?;
+    let others = pair(seats)?;
+    Some(is_seeded && side_by_side(rt, store, alloc, readers, others))
 }
 
-// Opens a store of two regions over such families, with seats for four.
+// Opens a store of two regions over such families, with seats for five.
 fn collects_beside<J, F, R>(rt: &R, alloc: Global, opened: Opened) -> Option<bool>
 where
     J: JournalId + Send + Sync,
@@ -212,26 +239,27 @@ where
     requires name { (opened.table ≡ J.table) × (opened.bounds ≡ J.bounds) × (opened.seats ≡ J.seats) }
     requires two { length J.bounds ≡ 1 }
 {
-    let (store, seats) = open::<J, F, Plain>(alloc, opened, &Plain, 2)?;
-    let found = run_over(rt, &store, alloc, seats);
+    let (store, mut seats) = open::<J, F>(alloc, opened)?;
+    let found = run_over(rt, &store, alloc, &mut seats);
+    drop(seats);
     drop(store);
     found
 }
 
+// What is found over such families.
+fn found<F: Fresh + Send, R: Threads + Wait + Sync>(rt: &R, alloc: Global) -> Option<bool> {
+    let opened = two_regions(alloc, b"m", 5)?;
+    collects_beside::<Brand, F, R>(rt, alloc, opened)
+}
+
 #[test]
 fn collections_beside_readers_of_nested_maps(rt: HostRuntime) -> Result<(), Fail> {
-    let bounds = one_bound(rt.alloc(), b"m").ok_or("a key")?;
-    let opened = Opened::new(rt.alloc(), bounds, 4)?;
-    let found = collects_beside::<Brand, NestedCells, _>(&rt, rt.alloc(), opened);
-    assert_eq!(rt; found, Some(true));
+    assert_eq!(rt; found::<NestedCells, _>(&rt, rt.alloc()), Some(true));
     Ok(())
 }
 
 #[test]
 fn collections_beside_readers_of_flat_maps(rt: HostRuntime) -> Result<(), Fail> {
-    let bounds = one_bound(rt.alloc(), b"m").ok_or("a key")?;
-    let opened = Opened::new(rt.alloc(), bounds, 4)?;
-    let found = collects_beside::<Brand, FlatCells, _>(&rt, rt.alloc(), opened);
-    assert_eq!(rt; found, Some(true));
+    assert_eq!(rt; found::<FlatCells, _>(&rt, rt.alloc()), Some(true));
     Ok(())
 }

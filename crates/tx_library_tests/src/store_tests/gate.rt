@@ -2,25 +2,27 @@
 ghost use Rattle.std.specs.Prelude.{◌≡◌, length};
 
 use crate::store_tests::sessions::{declare, enter, prewrite};
+use crate::stores::{pair, two_regions};
 use std::alloc::Global;
 use std::marker::Brand;
 use std::sync::{Arc, Wait};
 use std::test::Fail;
 use std::thread::{Threads, join};
+use tx_cells::Families;
 use tx_client::Session;
-use tx_harness::{Meeting, Watched, one_bound, open};
+use tx_harness::{Rendezvous, Watched, open};
 use tx_journal::{JournalId, Opened, Seat};
 use tx_nested::NestedCells;
 use tx_store::{Store, Wire};
 use tx_types::Mode;
 
 // Families of which two looks meet.
-type Cells = Watched<NestedCells, Meeting>;
+type Cells = Watched<NestedCells, Rendezvous>;
 
 // Begins, and locks a key: whether that was accepted.
-fn lock<J: JournalId, R: Wait>(
+fn lock<J: JournalId, F: Families + Drop, R: Wait>(
     rt: &R,
-    store: &Store<J, Cells>,
+    store: &Store<J, F>,
     alloc: Global,
     seat: Seat<J>,
     key: &[u8],
@@ -37,13 +39,18 @@ fn lock<J: JournalId, R: Wait>(
 }
 
 // Two threads lock these keys: whether both were accepted.
-fn lock_at_once<J: JournalId + Send + Sync, R: Threads + Wait + Sync>(
+fn lock_at_once<J, F, R>(
     rt: &R,
-    store: &Store<J, Cells>,
+    store: &Store<J, F>,
     alloc: Global,
     (one, two): (Seat<J>, Seat<J>),
     (first, second): (&[u8], &[u8]),
-) -> bool {
+) -> bool
+where
+    J: JournalId + Send + Sync,
+    F: Families + Drop + Send,
+    R: Threads + Wait + Sync,
+{
     let (a, b) = join(
         rt,
         || lock(rt, store, alloc, one, first),
@@ -58,18 +65,19 @@ fn locks_at_once<J: JournalId + Send + Sync, R: Threads + Wait + Sync>(
     rt: &R,
     alloc: Global,
     opened: Opened,
-    meeting: &Arc<Meeting>,
+    rendezvous: &Arc<Rendezvous>,
     keys: (&[u8], &[u8]),
 ) -> bool
     requires name { (opened.table ≡ J.table) × (opened.bounds ≡ J.bounds) × (opened.seats ≡ J.seats) }
     requires two { length J.bounds ≡ 1 }
 {
-    let Some((store, mut seats)) = open::<J, Cells, Arc<Meeting>>(alloc, opened, meeting, 2) else {
+    let Some((store, mut seats)) = open::<J, Cells, Arc<Rendezvous>>(alloc, opened, rendezvous, 2)
+    else {
         return false;
     };
-    let answered = match (seats.pop(), seats.pop()) {
-        (Some(two), Some(one)) => lock_at_once(rt, &store, alloc, (one, two), keys),
-        _ => false,
+    let answered = match pair(&mut seats) {
+        Some(both) => lock_at_once(rt, &store, alloc, both, keys),
+        None => false,
     };
     drop(store);
     answered
@@ -83,14 +91,13 @@ fn meet<R: Threads + Wait + Sync>(
     turns: u64,
     between: &[u8],
 ) -> Option<bool> {
-    let bounds = one_bound(alloc, between)?;
-    let opened = Opened::new(alloc, bounds, 2).ok()?;
-    let meeting = Arc::new(alloc, Meeting::new(turns)).ok()?;
+    let rendezvous = Arc::new(alloc, Rendezvous::new(turns)).ok()?;
+    let opened = two_regions(alloc, between, 2)?;
     let keys: (&[u8], &[u8]) = (b"a", b"b");
-    let accepted = locks_at_once::<Brand, R>(rt, alloc, opened, &meeting, keys);
-    let came = meeting.is_complete();
-    let met = meeting.has_met();
-    drop(meeting);
+    let accepted = locks_at_once::<Brand, R>(rt, alloc, opened, &rendezvous, keys);
+    let came = rendezvous.is_complete();
+    let met = rendezvous.has_met();
+    drop(rendezvous);
     if accepted && came { Some(met) } else { None }
 }
 

@@ -1,4 +1,5 @@
 //! What the sessions of tests do, some calls at a time.
+use crate::calls::put;
 use std::alloc::Global;
 use std::sync::Wait;
 use tx_cells::Families;
@@ -6,7 +7,7 @@ use tx_client::{Session, Terms};
 use tx_core::Answer;
 use tx_journal::JournalId;
 use tx_store::Wire;
-use tx_types::{Key, Mode, Ts, Value};
+use tx_types::{Mode, Ts};
 
 /// Enters a put of this value into the buffer: whether that went well.
 pub fn enter<J: JournalId>(
@@ -15,13 +16,7 @@ pub fn enter<J: JournalId>(
     key: &[u8],
     value: &[u8],
 ) -> bool {
-    if session.is_declared() {
-        return false;
-    }
-    let (Ok(key), Ok(value)) = (Key::new(alloc, key), Value::new(alloc, value)) else {
-        return false;
-    };
-    session.put(key, value).is_ok()
+    !session.is_declared() && put(alloc, session, key, value).is_ok()
 }
 
 /// Fixes the write set, whose locks live so many ticks: whether that went well.

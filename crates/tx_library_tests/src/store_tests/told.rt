@@ -1,20 +1,21 @@
 //! What one thread has committed, another reads that begins after it was told.
 ghost use Rattle.std.specs.Prelude.{◌≡◌, length};
 
+use crate::calls::get;
 use crate::store_tests::sessions::{commit, declare, enter, prewrite};
+use crate::stores::{open, pair, two_regions};
 use std::alloc::Global;
 use std::marker::Brand;
 use std::sync::Wait;
 use std::test::Fail;
 use std::thread::{Threads, join};
-use tx_cells::{Families, Plain};
+use tx_cells::{Families, Fresh};
 use tx_client::Session;
 use tx_core::Answer;
-use tx_harness::{one_bound, open};
 use tx_journal::{JournalId, Opened, Seat, Told};
 use tx_nested::NestedCells;
 use tx_store::{Store, Wire};
-use tx_types::{Key, Mode, Ts};
+use tx_types::{Mode, Ts};
 
 // Puts `x` on `a` and `y` on `z`, which lie in different regions: when it committed, and
 // what tells of it.
@@ -55,10 +56,8 @@ fn reads<J: JournalId, F: Families + Drop, R: Wait>(
     key: &[u8],
     byte: u8,
 ) -> bool {
-    let Ok(key) = Key::new(alloc, key) else {
-        return false;
-    };
-    match session.get(&key, wire) {
+    wire.show();
+    match get(alloc, session, key, wire) {
         Ok(answer) => {
             let is = is_byte(&answer, byte);
             drop(answer);
@@ -122,7 +121,7 @@ where
     }
 }
 
-fn tells_across<J: JournalId + Send + Sync, R: Threads + Wait + Sync>(
+fn tells_across<J: JournalId + Send + Sync, F: Fresh + Send, R: Threads + Wait + Sync>(
     rt: &R,
     alloc: Global,
     opened: Opened,
@@ -130,12 +129,12 @@ fn tells_across<J: JournalId + Send + Sync, R: Threads + Wait + Sync>(
     requires name { (opened.table ≡ J.table) × (opened.bounds ≡ J.bounds) × (opened.seats ≡ J.seats) }
     requires two { length J.bounds ≡ 1 }
 {
-    let Some((store, mut seats)) = open::<J, NestedCells, Plain>(alloc, opened, &Plain, 2) else {
+    let Some((store, mut seats)) = open::<J, F>(alloc, opened) else {
         return false;
     };
-    let told = match (seats.pop(), seats.pop()) {
-        (Some(two), Some(one)) => tell_across(rt, &store, alloc, one, two),
-        _ => false,
+    let told = match pair(&mut seats) {
+        Some((one, two)) => tell_across(rt, &store, alloc, one, two),
+        None => false,
     };
     drop(store);
     told
@@ -143,8 +142,7 @@ fn tells_across<J: JournalId + Send + Sync, R: Threads + Wait + Sync>(
 
 #[test]
 fn told_by_another_thread(rt: HostRuntime) -> Result<(), Fail> {
-    let bounds = one_bound(rt.alloc(), b"m").ok_or("a key")?;
-    let opened = Opened::new(rt.alloc(), bounds, 2)?;
-    assert!(rt; tells_across::<Brand, _>(&rt, rt.alloc(), opened));
+    let opened = two_regions(rt.alloc(), b"m", 2).ok_or("a journal")?;
+    assert!(rt; tells_across::<Brand, NestedCells, _>(&rt, rt.alloc(), opened));
     Ok(())
 }

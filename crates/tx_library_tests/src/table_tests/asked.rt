@@ -58,6 +58,12 @@ pub fn key(alloc: Global, byte: u8) -> Result<Key, Fault> {
     Key::new(alloc, &[byte])
 }
 
+fn keys(alloc: Global, first: u8, second: u8) -> Result<(Key, Key), Fault> {
+    let first = key(alloc, first)?;
+    let second = key(alloc, second)?;
+    Ok((first, second))
+}
+
 fn starts(alloc: Global, start: u64) -> Result<Starts, Fault> {
     let mut starts = Starts::new(alloc);
     if start != 0 {
@@ -77,9 +83,8 @@ fn get(alloc: Global, byte: u8, at: u64, bypass: u64) -> Result<Body, Fault> {
 }
 
 fn scan(alloc: Global, from: u8, to: u8, at: u64, limit: u32, bypass: u64) -> Result<Body, Fault> {
-    let from = key(alloc, from)?;
-    let to = key(alloc, to)?;
     let bypass = starts(alloc, bypass)?;
+    let (from, to) = keys(alloc, from, to)?;
     let body = Scan {
         from,
         to,
@@ -119,8 +124,7 @@ fn prewrite(
     mode: Mode,
     max_commit: u64,
 ) -> Result<Body, Fault> {
-    let key = key(alloc, byte)?;
-    let primary = key.clone()?;
+    let (key, primary) = keys(alloc, byte, byte)?;
     let mutation = mutation(alloc, what)?;
     let body = Prewrite {
         key,

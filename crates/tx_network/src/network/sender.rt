@@ -1,5 +1,5 @@
 //! What becomes of a request on its way to a region, by the delivery that is set.
-ghost use Rattle.std.specs.Prelude.{◌≡◌, ◌⊎◌, string_bytes};
+ghost use Rattle.std.specs.Prelude.{◌⊎◌, string_bytes};
 ghost use Rattle.tx_journal.specs.Senders.{IsHeld};
 ghost use Rattle.tx_network.specs.Networks.{region_for, Twice, IsUntaken, HeldUnder, Passes};
 

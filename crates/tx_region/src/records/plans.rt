@@ -62,18 +62,33 @@ impl<F: Families> Records<F> {
         None
     }
 
+    // The answer of a plan for this key that names the lock on it, with what is told of that.
+    #[inline(never)]
+    fn fill_in_lock(
+        &self,
+        key: &EncodedKey<'_>,
+        answer: PlannedAnswer,
+    ) -> Result<AnswerWithLock, Fault>
+        ensures answer { IfOk result (λ a. a ≡ answer_with
+            (info_on ((region_of F.content self.now 0).cells key.now) key.now) answer) }
+        ensures err { IfErr result (λ e. e ≡ Fault.OutOfMemory) }
+    {
+        let info = self.families.lock_info(self.alloc, key)?;
+        AnswerWithLock::new(answer.with_lock(info))
+    }
+
     // The answer of a plan for this key, with what is told of the lock on it where the answer
-    // names that.
+    // names that. Mostly it names none.
+    #[inline(always)]
     fn fill_in(&self, key: &EncodedKey<'_>, answer: PlannedAnswer) -> Result<AnswerWithLock, Fault>
         ensures answer { IfOk result (λ a. a ≡ answer_with
             (info_on ((region_of F.content self.now 0).cells key.now) key.now) answer) }
         ensures err { IfErr result (λ e. e ≡ Fault.OutOfMemory) }
     {
-        if !answer.names_lock() {
-            return AnswerWithLock::new(answer.with_lock(None));
+        match answer {
+            PlannedAnswer::Given(answer) => AnswerWithLock::new(answer),
+            _ => self.fill_in_lock(key, answer),
         }
-        let info = self.families.lock_info(self.alloc, key)?;
-        AnswerWithLock::new(answer.with_lock(info))
     }
 
     // The number of the next request that is counted. `OutOfMemory` after the greatest number,

@@ -97,7 +97,8 @@ impl<J: JournalId, L: Source, F: Families + Drop, R: Wait + Drop> ScriptJob<J, L
         self.report(number, PlainReply::new(ScriptReply::Fine));
     }
 
-    // What the step of this line comes to, of a session that is live.
+    // What the step of this line comes to, of a session that is live. For proofs: `number` names
+    // the line in the clauses.
     fn result_of(
         &mut self,
         number: u64,

@@ -1,5 +1,5 @@
 use Rattle.std.proofs.Common.{◌-◌, ◌∙◌, arith}
-use Rattle.tx_cells.proofs.Falling.{heads_end, heads_fall, heads_last, heads_on}
+use Rattle.tx_cells.proofs.NewestFirst.{heads_end, heads_fall, heads_last, heads_on}
 use Rattle.tx_cells.proofs.copies.records_down.Goals as goal
 
 pub returns-in_default-clause-all : goal.returns-in_default-clause-all

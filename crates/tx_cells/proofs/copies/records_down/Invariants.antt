@@ -1,7 +1,7 @@
 use Rattle.std.proofs.Common.{◌≡◌}
 use Rattle.tx_cells.specs.declared.copies.RecordAt.{RecordAt}
 use Rattle.tx_cells.specs.Copies.{times_of}
-use Rattle.tx_cells.proofs.Falling.{Down, IsHead}
+use Rattle.tx_cells.proofs.NewestFirst.{Down, IsHead}
 use Rattle.tx_cells.proofs.copies.records_down.Given as goal
 
 abbrev pub invariant-records : goal.invariant-records

@@ -2,7 +2,7 @@ use Rattle.std.proofs.Common.{◌≡◌, ◌∙◌, Ok, sym, ap, subst}
 use Rattle.tx_journal.specs.Replies.{Asked, Given}
 use Rattle.tx_transaction.specs.Returns.{Response}
 use Rattle.tx_client.specs.Facts.{RespondsSo}
-use Rattle.tx_client.proofs.Calling.{came_reached}
+use Rattle.tx_client.proofs.Calls.{came_reached}
 use Rattle.tx_client.proofs.requests.ask_with_lock.Goals as goal
 
 pub returns-clause-told : goal.returns-clause-told

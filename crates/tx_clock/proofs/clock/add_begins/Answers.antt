@@ -4,7 +4,7 @@ use Rattle.std.proofs.lemmas.Grind.{common_steps}
 use Rattle.std.proofs.lemmas.List.{get_or_read}
 use Rattle.tx_recording.specs.declared.recording.Transaction.{Transaction}
 use Rattle.tx_recording.specs.Recordings.{txns_of, no_transaction}
-use Rattle.tx_clock.proofs.Running.{begun_more}
+use Rattle.tx_clock.proofs.NextEvents.{begun_more}
 use Rattle.tx_clock.proofs.clock.add_begins.Goals as goal
 
 pub loop-txn-preserved : goal.loop-txn-preserved

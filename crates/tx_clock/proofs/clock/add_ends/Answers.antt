@@ -5,7 +5,7 @@ use Rattle.std.proofs.lemmas.List.{get_or_read}
 use Rattle.tx_recording.specs.declared.recording.Transaction.{Transaction}
 use Rattle.tx_recording.specs.Recordings.{txns_of, no_transaction}
 use Rattle.tx_clock.specs.declared.clock.Event.{Event}
-use Rattle.tx_clock.proofs.Running.{ended_more, kept_push}
+use Rattle.tx_clock.proofs.NextEvents.{ended_more, kept_push}
 use Rattle.tx_clock.proofs.clock.add_ends.Goals as goal
 
 pub loop-txn-preserved : goal.loop-txn-preserved

@@ -1,7 +1,7 @@
 -- Both are events, in the order of time.
 use Rattle.std.proofs.Common.{subst}
 use Rattle.tx_clock.specs.KeptOrder.{KeepsEvents}
-use Rattle.tx_clock.proofs.Ticking.{clock_kept}
+use Rattle.tx_clock.proofs.ClockOrder.{clock_kept}
 use Rattle.tx_clock.proofs.clock.keeps_clock.Goals as goal
 
 pub returns : goal.returns

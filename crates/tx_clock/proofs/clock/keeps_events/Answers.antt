@@ -2,7 +2,7 @@
 use Rattle.std.proofs.Common.{◌≡◌, ℕ, ◌<◌, ◌≤◌, true, false, get_or, arith, sym, ap, ◌∙◌, subst, refl, IsTrue}
 use Rattle.std.proofs.Math.Bool.{not}
 use Rattle.tx_clock.specs.KeptOrder.{event_at}
-use Rattle.tx_clock.proofs.Running.{ended_next, begun_next}
+use Rattle.tx_clock.proofs.NextEvents.{ended_next, begun_next}
 use Rattle.tx_clock.proofs.clock.keeps_events.Goals as goal
 
 pub loop-i-preserved : goal.loop-i-preserved

@@ -5,7 +5,7 @@ use Rattle.std.proofs.lemmas.List.{get_or_read, length-set}
 use Rattle.tx_recording.specs.declared.recording.Transaction.{Transaction}
 use Rattle.tx_recording.specs.Recordings.{txns_of, transaction_at, no_transaction}
 use Rattle.tx_clock.specs.KeptOrder.{live_in}
-use Rattle.tx_clock.proofs.Running.{above_none, kept_none, above_next, kept_next}
+use Rattle.tx_clock.proofs.NextEvents.{above_none, kept_none, above_next, kept_next}
 use Rattle.tx_clock.proofs.sessions.keeps_sessions.Goals as goal
 
 pub loop-txn-preserved-then-not-has_process : goal.loop-txn-preserved-then-not-has_process

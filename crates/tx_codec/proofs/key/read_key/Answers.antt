@@ -1,6 +1,6 @@
 use Rattle.std.proofs.Common.{◌≡◌, ℕ, List, ◌+◌, length, take, get_or, arith, inl, inr, sym, ap, ◌∙◌}
 use Rattle.std.proofs.lemmas.List.{length-take, get_or-take, take-take}
-use Rattle.tx_codec.proofs.KeyReading.{IsRead-group, IsRead-stopped, IsRead-none, IsRead-long, IsRead-all, front_written}
+use Rattle.tx_codec.proofs.KeyReads.{IsRead-group, IsRead-stopped, IsRead-none, IsRead-long, IsRead-all, front_written}
 use Rattle.tx_codec.proofs.key.read_key.Goals as goal
 use Rattle.tx_codec.proofs.key.read_key.Goals.{then-group-via-then-group, then-group-via-else-group+then-len-gt-MAX_KEY_BYTES}
 

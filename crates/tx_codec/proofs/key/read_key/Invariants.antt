@@ -1,5 +1,5 @@
 use Rattle.std.proofs.Common.{◌≤◌, length, take}
-use Rattle.tx_codec.proofs.KeyReading.{IsRead}
+use Rattle.tx_codec.proofs.KeyReads.{IsRead}
 use Rattle.tx_codec.proofs.key.read_key.Given as goal
 
 abbrev pub invariant-loop-rest : goal.invariant-loop-rest

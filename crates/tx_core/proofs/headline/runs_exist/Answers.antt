@@ -1,6 +1,6 @@
 use Rattle.tx_core.proofs.examples.CommitThenRead as two_phase
 use Rattle.tx_core.proofs.examples.Resolver as resolver
-use Rattle.tx_core.proofs.examples.FallingBack as fall_back
+use Rattle.tx_core.proofs.examples.Fallback as fall_back
 use Rattle.tx_core.proofs.examples.PushThenPass as push
 use Rattle.tx_core.proofs.examples.StatusAborts as status
 use Rattle.tx_core.proofs.examples.MarkedRollback as overlap

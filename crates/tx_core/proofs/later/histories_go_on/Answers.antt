@@ -1,4 +1,4 @@
-use Rattle.tx_core.proofs.going_on.Noting.{left_goes_on}
+use Rattle.tx_core.proofs.evolution.Notes.{left_goes_on}
 use Rattle.tx_core.proofs.later.histories_go_on.Goals as goal
 
 pub returns : goal.returns

@@ -1,5 +1,5 @@
-use Rattle.tx_core.proofs.going_on.Order.{never_back}
-use Rattle.tx_core.proofs.going_on.Steps.{new_regular, steps}
+use Rattle.tx_core.proofs.evolution.Order.{never_back}
+use Rattle.tx_core.proofs.evolution.Steps.{new_regular, steps}
 use Rattle.tx_core.proofs.later.regions_go_on.Goals as goal
 
 pub returns : goal.returns

@@ -1,4 +1,4 @@
-use Rattle.tx_core.proofs.seats.Counting.{parts_count}
+use Rattle.tx_core.proofs.seats.Counts.{parts_count}
 use Rattle.tx_core.proofs.laws.parts_make_the_whole.Goals as goal
 
 pub returns : goal.returns

@@ -5,7 +5,7 @@ use Rattle.tx_client.specs.Calls.{Seated, HasHeard}
 use Rattle.tx_trace.specs.Traces.{Noted}
 use Rattle.tx_network.specs.Networks.{NetworkParts, GoesOnWith, NotesDrawn, network_state, with_events}
 use Rattle.tx_engine.specs.Slots.{Acts}
-use Rattle.tx_engine.proofs.Acting.{begun_acts}
+use Rattle.tx_engine.proofs.ActCounts.{begun_acts}
 use Rattle.tx_engine.proofs.acts.begin_at.Goals as goal
 
 pub returns-clause-acts : goal.returns-clause-acts

@@ -9,8 +9,8 @@ use Rattle.tx_trace.specs.Traces.{Noted}
 use Rattle.tx_network.specs.Networks.{NetworkParts, network_state, with_events}
 use Rattle.tx_engine.specs.Slots.{Acts, NotesPlaced}
 use Rattle.tx_engine.specs.Semantics.{declared_in, placed_in}
-use Rattle.tx_engine.proofs.Acting.{declared_acts, heard_acts, acts_so}
-use Rattle.tx_network.proofs.Tracing.{kept_same}
+use Rattle.tx_engine.proofs.ActCounts.{declared_acts, heard_acts, acts_so}
+use Rattle.tx_network.proofs.Traces.{kept_same}
 use Rattle.tx_engine.proofs.acts.declare_at.Goals as goal
 
 pub note_declared-requires : goal.note_declared-requires

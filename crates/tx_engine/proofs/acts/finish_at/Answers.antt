@@ -7,8 +7,8 @@ use Rattle.tx_transaction.specs.Sessions.{SessionState, finish_of}
 use Rattle.tx_trace.specs.Traces.{Noted}
 use Rattle.tx_network.specs.Networks.{NetworkParts, GoesOnWith, NetworkState, network_state, with_events}
 use Rattle.tx_engine.specs.Slots.{Acts}
-use Rattle.tx_engine.proofs.Acting.{recorded_acts, heard_acts}
-use Rattle.tx_network.proofs.Tracing.{kept_same}
+use Rattle.tx_engine.proofs.ActCounts.{recorded_acts, heard_acts}
+use Rattle.tx_network.proofs.Traces.{kept_same}
 use Rattle.tx_engine.proofs.acts.finish_at.Goals as goal
 
 pub returns-in-Ok-clause-ended : goal.returns-in-Ok-clause-ended

@@ -3,7 +3,7 @@ use Rattle.tx_core.specs.declared.event.Event.TheVariants.{Drawn}
 use Rattle.tx_transaction.specs.Buffers.{not_empty}
 use Rattle.tx_transaction.specs.Sessions.{is_declared, declaration, SessionState}
 use Rattle.tx_network.specs.Networks.{GoesOnWith}
-use Rattle.tx_engine.proofs.Acting.{placed_none, placed_some, not_empty_is}
+use Rattle.tx_engine.proofs.ActCounts.{placed_none, placed_some, not_empty_is}
 use Rattle.tx_engine.proofs.acts.note_declared.Goals as goal
 
 pub returns-then-not-has_primary-clause-notes : goal.returns-then-not-has_primary-clause-notes

@@ -2,7 +2,7 @@ use Rattle.std.proofs.Common.{ℕ, List, subst}
 use Rattle.tx_plan.specs.declared.body.Body.TheVariants as body
 use Rattle.tx_network.specs.Networks.{network_state, Met}
 use Rattle.tx_engine.specs.Slots.{Serves}
-use Rattle.tx_engine.proofs.Serving.{ask_serves}
+use Rattle.tx_engine.proofs.SystemSeat.{ask_serves}
 use Rattle.tx_engine.proofs.acts.read_at.Goals as goal
 
 pub returns-clause-serves : goal.returns-clause-serves

@@ -5,8 +5,8 @@ use Rattle.tx_journal.specs.Known.{Known}
 use Rattle.tx_client.specs.Calls.{HasHeard}
 use Rattle.tx_network.specs.Networks.{NetworkParts, network_state, with_events}
 use Rattle.tx_engine.specs.Slots.{Acts}
-use Rattle.tx_network.proofs.Tracing.{stopped_on}
-use Rattle.tx_engine.proofs.Acting.{recorded_acts}
+use Rattle.tx_network.proofs.Traces.{stopped_on}
+use Rattle.tx_engine.proofs.ActCounts.{recorded_acts}
 use Rattle.tx_engine.proofs.acts.stop_at.Goals as goal
 
 pub returns : goal.returns

@@ -5,7 +5,7 @@ use Rattle.tx_journal.specs.Known.{Known}
 use Rattle.tx_network.specs.Networks.{NetworkParts, GoesOnWith, network_state, with_events}
 use Rattle.tx_engine.specs.Slots.{Serves}
 use Rattle.tx_trace.specs.Traces.{Noted}
-use Rattle.tx_engine.proofs.Serving.{tick_serves}
+use Rattle.tx_engine.proofs.SystemSeat.{tick_serves}
 use Rattle.tx_engine.proofs.acts.tick_at.Goals as goal
 
 pub returns-clause-drawn : goal.returns-clause-drawn

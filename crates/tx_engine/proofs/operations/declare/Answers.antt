@@ -3,7 +3,7 @@ use Rattle.tx_types.specs.declared.fault.Cause.{Cause}
 use Rattle.tx_reply.specs.declared.reply.ScriptReply.{ScriptReply}
 use Rattle.tx_engine.specs.Semantics.{declares}
 use Rattle.tx_engine.specs.Slots.{Did}
-use Rattle.tx_engine.proofs.Doing.{declare_late, declared_ok, declared_err}
+use Rattle.tx_engine.proofs.SessionTurns.{declare_late, declared_ok, declared_err}
 use Rattle.tx_engine.proofs.operations.declare.Goals as goal
 use Rattle.tx_engine.proofs.operations.declare.Goals.{in-Ok, in-Err}
 

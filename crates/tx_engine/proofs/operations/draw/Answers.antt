@@ -1,5 +1,5 @@
 use Rattle.std.proofs.Common.{sym}
-use Rattle.tx_engine.proofs.Doing.{draw_early, drew_did}
+use Rattle.tx_engine.proofs.SessionTurns.{draw_early, drew_did}
 use Rattle.tx_engine.proofs.operations.draw.Goals as goal
 
 pub returns-then-not-can_draw : goal.returns-then-not-can_draw

@@ -9,7 +9,7 @@ use Rattle.tx_reply.specs.declared.reply.ScriptReply.{ScriptReply}
 use Rattle.tx_network.specs.Networks.{NetworkParts}
 use Rattle.tx_engine.specs.Semantics.{declares, edits}
 use Rattle.tx_engine.specs.Slots.{Did}
-use Rattle.tx_engine.proofs.Editing.{did_alone}
+use Rattle.tx_engine.proofs.Edits.{did_alone}
 use Rattle.tx_engine.proofs.operations.edit.Goals as goal
 
 -- what it did, it did of the operation that this is

@@ -1,8 +1,8 @@
 use Rattle.std.proofs.Common.{sym}
 use Rattle.tx_steps.specs.Steps.{called, delivered}
-use Rattle.tx_engine.proofs.Doing.{held_amiss, held_many, goes_on}
-use Rattle.tx_engine.proofs.Turning.{did_send}
-use Rattle.tx_network.proofs.Walking.{is_way}
+use Rattle.tx_engine.proofs.SessionTurns.{held_amiss, held_many, goes_on}
+use Rattle.tx_engine.proofs.Turns.{did_send}
+use Rattle.tx_network.proofs.Walks.{is_way}
 use Rattle.tx_engine.proofs.operations.send.Goals as goal
 
 pub returns-then-not-may_go : goal.returns-then-not-may_go

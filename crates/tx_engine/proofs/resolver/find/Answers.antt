@@ -1,7 +1,7 @@
 use Rattle.std.proofs.Common.{length, ap, ◌∙◌}
 use Rattle.tx_core.specs.Recording.{part}
 use Rattle.tx_resolve.specs.BlockedReads.{read_walk}
-use Rattle.tx_resolve.proofs.Knowing.{told_on}
+use Rattle.tx_resolve.proofs.Knowledge.{told_on}
 use Rattle.tx_engine.specs.declared.resolver.Direct.{Direct}
 use Rattle.tx_engine.proofs.Directly.{direct_ticks, direct_serves}
 use Rattle.tx_engine.proofs.resolver.find.Goals as goal

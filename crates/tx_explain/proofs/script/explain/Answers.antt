@@ -2,10 +2,10 @@ use Rattle.std.proofs.Common.{◌≡◌, ◌≤◌, ℕ, List, Bor, map, length,
 use Rattle.std.specs.Result.{IfOk}
 use Rattle.tx_types.specs.declared.limits.TheConstants.{MAX_LINES}
 use Rattle.tx_text.specs.Lines.{lines_of}
-use Rattle.tx_script.proofs.Ending.{if_some}
+use Rattle.tx_script.proofs.Ends.{if_some}
 use Rattle.tx_played.specs.declared.watched.Watched.{Watched}
 use Rattle.tx_played.specs.Played.{put_in, IsShowable}
-use Rattle.tx_explain.proofs.Explaining.{shown}
+use Rattle.tx_explain.proofs.Explanations.{shown}
 use Rattle.tx_explain.proofs.script.explain.Goals as goal
 
 abbrev now : Bor (List ℕ) → List ℕ

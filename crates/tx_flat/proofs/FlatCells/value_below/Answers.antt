@@ -2,7 +2,7 @@ use Rattle.std.proofs.Common.{List, subst}
 use Rattle.std.proofs.Common.{ℕ}
 use Rattle.tx_flat.specs.Flats.{flat_content}
 use Rattle.tx_cells.specs.Histories.{NoneSeen}
-use Rattle.tx_cells.proofs.Reading.{none_found}
+use Rattle.tx_cells.proofs.NewestValue.{none_found}
 use Rattle.tx_flat.proofs.FlatCells.value_below.Goals as goal
 
 pub returns-in_default-clause-value : goal.returns-in_default-clause-value

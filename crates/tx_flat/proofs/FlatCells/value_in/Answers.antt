@@ -8,7 +8,7 @@ use Rattle.tx_spelling.specs.Spelt.{version_cmp}
 use Rattle.tx_flat.specs.Flats.{flat_content}
 use Rattle.tx_cells.specs.Heads.{write_inline, write_keeps_apart}
 use Rattle.tx_cells.proofs.Facts.{write_kept, whole_at, if_ok}
-use Rattle.tx_cells.proofs.Reading.{inline_found, apart_found}
+use Rattle.tx_cells.proofs.NewestValue.{inline_found, apart_found}
 use Rattle.tx_flat.proofs.FlatCells.value_in.Goals as goal
 
 pub returns-then-not-keeps_value_apart-clause-value : goal.returns-then-not-keeps_value_apart-clause-value

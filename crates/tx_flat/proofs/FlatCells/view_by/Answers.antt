@@ -7,7 +7,7 @@ use Rattle.tx_flat.specs.Flats.{flat_content}
 use Rattle.tx_cells.specs.Histories.{Records, CommitsAt, CommitsAbove, IsNewest}
 use Rattle.tx_cells.specs.Heads.{write_head}
 use Rattle.tx_cells.proofs.Facts.{dated, fitting, whole_at}
-use Rattle.tx_cells.proofs.Showing.{shown}
+use Rattle.tx_cells.proofs.RecordCells.{shown}
 use Rattle.tx_flat.proofs.FlatCells.view_by.Goals as goal
 
 pub commits_above-own_commit-requires-clause-dated : goal.commits_above-own_commit-requires-clause-dated

@@ -2,7 +2,7 @@ use Rattle.std.proofs.Common.{◌-◌, ◌<◌, ◌^◌, ℕ, List, refl, ap, sy
 use Rattle.std.specs.Prelude.{IsSome}
 use Rattle.std.specs.BTreeMap as tree
 use Rattle.tx_spelling.specs.Spelt.{version_cmp}
-use Rattle.tx_cells.proofs.Falling.{Down, HasStart, some_none, starts_end, starts_fall, starts_last, starts_on, down_starts}
+use Rattle.tx_cells.proofs.NewestFirst.{Down, HasStart, some_none, starts_end, starts_fall, starts_last, starts_on, down_starts}
 use Rattle.tx_flat.proofs.cells.starts_down.Goals as goal
 
 pub values-init : goal.values-init

@@ -1,7 +1,7 @@
 use Rattle.std.proofs.Common.{◌≡◌, ℕ}
 use Rattle.std.specs.BTreeMap as tree
 use Rattle.tx_spelling.specs.Spelt.{version_cmp}
-use Rattle.tx_cells.proofs.Falling.{Down, HasStart}
+use Rattle.tx_cells.proofs.NewestFirst.{Down, HasStart}
 use Rattle.tx_flat.proofs.cells.starts_down.Given as goal
 
 abbrev pub invariant-values : goal.invariant-values

@@ -6,8 +6,8 @@ use Rattle.tx_cells.specs.Heads.{record_kind}
 use Rattle.tx_flat.specs.Sieves.{is_followed, is_kept}
 use Rattle.std.specs.BTreeMap as tree
 use Rattle.tx_spelling.specs.Spelt.{version_cmp}
-use Rattle.tx_flat.proofs.Retaining.{Sifted, sifts}
-use Rattle.tx_flat.proofs.Sieving.{Version, Place, AreLeft, Knows, Goes, keeps_at, says, knows_on, left_rest, left_all, knows_none}
+use Rattle.tx_flat.proofs.KeptEntries.{Sifted, sifts}
+use Rattle.tx_flat.proofs.Sieves.{Version, Place, AreLeft, Knows, Goes, keeps_at, says, knows_on, left_rest, left_all, knows_none}
 use Rattle.tx_flat.proofs.drop_below.drop_records.Goals as goal
 
 pub returns : goal.returns

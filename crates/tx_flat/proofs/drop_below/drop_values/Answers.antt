@@ -5,8 +5,8 @@ use Rattle.std.specs.BTreeMap.{BTreeMap}
 use Rattle.tx_types.specs.declared.write.WriteRec.{WriteRec}
 use Rattle.tx_flat.specs.Sieves.{Outdated}
 use Rattle.tx_spelling.specs.Spelt.{version_cmp}
-use Rattle.tx_flat.proofs.Retaining.{Sifted, sifts}
-use Rattle.tx_flat.proofs.Sieving.{Version}
+use Rattle.tx_flat.proofs.KeptEntries.{Sifted, sifts}
+use Rattle.tx_flat.proofs.Sieves.{Version}
 use Rattle.tx_flat.proofs.drop_below.drop_values.Goals as goal
 
 abbrev Out : BTreeMap Version WriteRec → ℕ → Version → Type 0

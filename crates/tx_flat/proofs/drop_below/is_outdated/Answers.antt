@@ -4,7 +4,7 @@ use Rattle.std.proofs.lemmas.Bool.{cases_lt}
 use Rattle.tx_plan.specs.declared.key_records.RecordKind.{RecordKind}
 use Rattle.tx_cells.specs.Heads.{is_rollback, start_in}
 use Rattle.tx_spelling.specs.Spelt.{version_cmp}
-use Rattle.tx_flat.proofs.Outdating.{climb_ends, climb_passes, climb_found, climb_commit, climb_other}
+use Rattle.tx_flat.proofs.OutdatedValues.{climb_ends, climb_passes, climb_found, climb_commit, climb_other}
 use Rattle.tx_flat.proofs.drop_below.is_outdated.Goals as goal
 use Rattle.tx_flat.proofs.drop_below.is_outdated.Goals.{else-committed-via-then-committed+else-kind, else-committed-via-else-committed}
 

@@ -1,7 +1,7 @@
 use Rattle.std.proofs.Common.{◌≡◌, ◌^◌, ◌-◌}
 use Rattle.std.specs.BTreeMap as tree
 use Rattle.tx_spelling.specs.Spelt.{version_cmp}
-use Rattle.tx_flat.proofs.Outdating.{Climb}
+use Rattle.tx_flat.proofs.OutdatedValues.{Climb}
 use Rattle.tx_flat.proofs.drop_below.is_outdated.Given as goal
 
 abbrev pub invariant-records : goal.invariant-records

@@ -1,7 +1,7 @@
 use Rattle.std.proofs.Common.{◌≡◌, ℕ, List, length, ap, sym, subst, ◌∙◌, length-append, arith}
 use Rattle.std.proofs.lemmas.Grind.{common_steps}
 use Rattle.tx_import.specs.Numbers.{IsValueOf, AreValuesOf}
-use Rattle.tx_import.proofs.Growing.{part_is, zip_long}
+use Rattle.tx_import.proofs.Extensions.{part_is, zip_long}
 use Rattle.tx_import.proofs.draft.put_read.Goals as goal
 
 pub returns-clause-elements : goal.returns-clause-elements

@@ -1,5 +1,5 @@
 use Rattle.std.proofs.Common.{◌≡◌, ◌++◌, ◌∷◌, [], arith}
-use Rattle.tx_import.proofs.Growing.{grows_then, values_more, within_more}
+use Rattle.tx_import.proofs.Extensions.{grows_then, values_more, within_more}
 use Rattle.tx_import.proofs.draft.put_values.Goals as goal
 
 pub loop-name-preserved : goal.loop-name-preserved

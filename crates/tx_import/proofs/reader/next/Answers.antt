@@ -5,7 +5,7 @@ use Rattle.tx_import.specs.declared.reader.HistoryTurn.TheVariants.{Put, Faulted
 use Rattle.tx_import.specs.Drafts.{weight, held}
 use Rattle.tx_import.specs.Histories.{said_in}
 use Rattle.tx_import.specs.Turns.{HistoryTurns}
-use Rattle.tx_import.proofs.Reading.{if_some, no_room}
+use Rattle.tx_import.proofs.ReadLines.{if_some, no_room}
 use Rattle.tx_import.proofs.reader.next.Goals as goal
 
 pub returns-then-not-has_room-clause-turns : goal.returns-then-not-has_room-clause-turns

@@ -1,5 +1,5 @@
 use Rattle.std.proofs.Common.{arith}
-use Rattle.tx_import.proofs.Reading.{if_some, so_far, ended, faulted, put}
+use Rattle.tx_import.proofs.ReadLines.{if_some, so_far, ended, faulted, put}
 use Rattle.tx_import.proofs.reader.read_history.Goals as goal
 
 pub lines-init : goal.lines-init

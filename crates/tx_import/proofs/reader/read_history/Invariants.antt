@@ -1,7 +1,7 @@
 use Rattle.std.proofs.Common.{◌+◌, ◌-◌, ◌≤◌, length, IfSome}
 use Rattle.tx_types.specs.declared.limits.TheConstants.{MAX_LINES}
 use Rattle.tx_import.specs.Drafts.{FitsDraft}
-use Rattle.tx_import.proofs.Reading.{SoFar}
+use Rattle.tx_import.proofs.ReadLines.{SoFar}
 use Rattle.tx_import.proofs.reader.read_history.Given as goal
 
 abbrev pub invariant-lines : goal.invariant-lines

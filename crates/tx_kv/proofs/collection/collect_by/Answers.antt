@@ -1,5 +1,5 @@
 use Rattle.tx_resolve.specs.Collection.{gc_walk}
-use Rattle.tx_reader.proofs.Seeing.{sees_more, sees_seen, sent_sees}
+use Rattle.tx_reader.proofs.Observers.{sees_more, sees_seen, sent_sees}
 use Rattle.tx_kv.proofs.collection.collect_by.Goals as goal
 
 pub returns-in_err-dropped-clause-seat : goal.returns-in_err-dropped-clause-seat

@@ -1,9 +1,10 @@
-use Rattle.std.proofs.Common.{List, IsTrue, sym, subst, ◌∙◌}
+use Rattle.std.proofs.Common.{List, IsTrue, rules, sym, subst, ◌∙◌}
 use Rattle.tx_types.specs.declared.key.Key.{Key}
 use Rattle.tx_types.specs.Keys.{key_le, key_lt}
 use Rattle.tx_reader.specs.Readers.{AreTogether}
-use Rattle.tx_reader.proofs.Seeing.{sees_itself}
-use Rattle.tx_simple.proofs.Reading.{page_told}
+use Rattle.tx_reader.proofs.Observers.{sees_itself}
+use Rattle.tx_simple.proofs.ReadAnswers.{page_told}
+use Rattle.tx_kv.specs.Views.{IsViewStop}
 use Rattle.tx_kv.proofs.ranges.page.Goals as goal
 
 pub returns-in_err-end-clause-seat : goal.returns-in_err-end-clause-seat
@@ -23,7 +24,8 @@ returns-clause-upto g c =
 
 pub returns-clause-some : goal.returns-clause-some
 returns-clause-some g c =
-    λ lt. subst (λ (k : Key). IsTrue (key_lt c.args.from.now k)) (sym c.in_ok-end.ensures.ok) (c.end_of_part.ensures.some lt)
+    λ lt. subst (λ (k : Key). IsTrue (key_lt c.args.from.now k)) (sym c.in_ok-end.ensures.ok)
+    (c.end_of_part.ensures.some lt)
 
 pub returns-clause-finds : goal.returns-clause-finds
 returns-clause-finds g c =
@@ -31,4 +33,10 @@ returns-clause-finds g c =
     let events = c.scan-answered.new.self.seat.events in
     let at = c.args.reader.now.at in
     page_told bounds events c.know_run.ensures at c.args.from.now c.in_ok-end.end 1024 c.in_ok-rows.rows
-    (c.in_ok-rows.ensures bounds events at c.args.from.now c.in_ok-end.end 1024 c.scan-answered.ensures.finds)
+    (c.in_ok-rows.ensures.finds bounds events at c.args.from.now c.in_ok-end.end 1024 c.scan-answered.ensures.finds)
+
+pub returns-in_err-rows-clause-err : goal.returns-in_err-rows-clause-err
+returns-in_err-rows-clause-err g c =
+    let why : IsViewStop c.args.reader.now.at c.in_err-rows.field-0.0 =
+    c.in_err-rows.ensures.err c.args.reader.now.at c.scan-answered.ensures.may in
+    search rules

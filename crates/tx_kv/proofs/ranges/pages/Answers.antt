@@ -4,10 +4,10 @@ use Rattle.tx_types.specs.declared.mutation.KeyValue.{KeyValue}
 use Rattle.tx_types.specs.Keys.{is_scanned, key_le, key_lt}
 use Rattle.tx_plan.proofs.KeyOrder.{ge_false, ge_true, lt_le}
 use Rattle.tx_laws.specs.Rows.{AreRowsOf}
-use Rattle.tx_reader.proofs.Seeing.{sees_begins, sees_itself, sees_more}
+use Rattle.tx_reader.proofs.Observers.{sees_begins, sees_itself, sees_more}
 use Rattle.tx_simple.specs.Reads.{SeesOn}
-use Rattle.tx_simple.proofs.Paging.{AreSoFar, all_so_far, later_so_far, more_so_far, none_so_far}
-use Rattle.tx_simple.proofs.Ranging.{sees_later}
+use Rattle.tx_simple.proofs.Pages.{AreSoFar, all_so_far, later_so_far, more_so_far, none_so_far}
+use Rattle.tx_simple.proofs.Ranges.{sees_later}
 use Rattle.tx_kv.proofs.ranges.pages.Goals as goal
 
 pub returns-in_err-next-clause-seat : goal.returns-in_err-next-clause-seat
@@ -56,7 +56,8 @@ loop-preserved g c =
     c.loop.invariant.2 in
     let all : c.add_rows.new.rows.items ≡ c.loop.rows.items ++ c.split_page-more.result.0.items = search rules in
     let page = subst
-    (λ (n : ℕ). AreRowsOf (is_scanned c.loop.next part.1 1024 part.0) (SeesOn bounds events n) part.0) c.loop.invariant.0
+    (λ (n : ℕ). AreRowsOf (is_scanned c.loop.next part.1 1024 part.0) (SeesOn bounds events n) part.0)
+    c.loop.invariant.0
     c.in_ok-part.ensures.finds in
     let more = more_so_far told from to c.loop.next part.1 c.split_page-more.result.1 c.loop.rows.items part.0
     c.split_page-more.result.0.items so_far (lt_le c.loop.next part.1 (c.in_ok-part.ensures.some below))

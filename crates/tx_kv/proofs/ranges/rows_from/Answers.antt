@@ -2,13 +2,13 @@ use Rattle.std.proofs.Common.{◌≡◌, ◌++◌, ℕ, List, None, Some, IfOk, 
 use Rattle.tx_types.specs.declared.mutation.KeyValue.{KeyValue}
 use Rattle.tx_types.specs.Keys.{key_le}
 use Rattle.tx_plan.proofs.KeyOrder.{not_lt}
-use Rattle.tx_reader.specs.Readers.{ReadsAt}
-use Rattle.tx_reader.proofs.Seeing.{sees_begins, sees_itself, sees_more}
+use Rattle.tx_reader.specs.Readers.{IsKeyAnswer, ReadsAt}
+use Rattle.tx_reader.proofs.Observers.{sees_begins, sees_itself, sees_more}
 use Rattle.tx_simple.specs.Ranges.{greatest, row_of}
 use Rattle.tx_simple.specs.Reads.{SeesOn}
-use Rattle.tx_simple.proofs.Ranging.{range_above, range_with_top}
-use Rattle.tx_kv.specs.Views.{SeesRange}
-use Rattle.tx_kv.proofs.Viewing.{SeenAt, seen_now}
+use Rattle.tx_simple.proofs.Ranges.{range_above, range_with_top}
+use Rattle.tx_kv.specs.Views.{IsViewStop, SeesRange}
+use Rattle.tx_kv.proofs.Views.{SeenAt, seen_now}
 use Rattle.tx_kv.proofs.ranges.rows_from.Goals as goal
 
 pub returns-in_err-top-clause-seat : goal.returns-in_err-top-clause-seat
@@ -27,6 +27,14 @@ pub returns-in_err-found-clause-seat : goal.returns-in_err-found-clause-seat
 returns-in_err-found-clause-seat g c =
     sees_more c.args.reader.now.seat c.pages.new.reader.seat c.get-answered.new.self.seat c.pages.ensures.seat
     c.get-answered.ensures.seat
+
+pub returns-in_err-found-clause-err : goal.returns-in_err-found-clause-err
+returns-in_err-found-clause-err g c =
+    let may = subst (λ (n : ℕ). IfOk c.get-answered.result (IsKeyAnswer n)) c.pages.ensures.at
+    c.get-answered.ensures.may in
+    let why : IsViewStop c.args.reader.now.at c.in_err-found.field-0.0 =
+    c.in_err-found.ensures.err c.args.reader.now.at may in
+    search rules
 
 pub returns-in_err-add_last-clause-seat : goal.returns-in_err-add_last-clause-seat
 returns-in_err-add_last-clause-seat g c =
@@ -53,5 +61,6 @@ returns g c =
           (range_with_top bounds new.events at (SeenAt new.events at) (seen_now bounds new.events c.know_run.ensures at)
           mid.events (sees_begins mid new c.get-answered.ensures.seat) c.args.from.now top is
           c.in_ok-rows.rows.items c.in_ok-rows.ensures.finds upto c.in_ok-found.found
-          (c.in_ok-found.ensures new.events at top reads));
+          (c.in_ok-found.ensures.finds new.events at top reads));
+      err = tt;
     }

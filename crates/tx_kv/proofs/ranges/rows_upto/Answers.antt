@@ -1,8 +1,8 @@
 use Rattle.std.proofs.Common.{List, Some, sym, subst}
 use Rattle.tx_types.specs.declared.mutation.KeyValue.{KeyValue}
-use Rattle.tx_simple.proofs.Ranging.{range_upto}
+use Rattle.tx_simple.proofs.Ranges.{range_upto}
 use Rattle.tx_kv.specs.Views.{SeesRange}
-use Rattle.tx_kv.proofs.Viewing.{SeenAt, seen_now}
+use Rattle.tx_kv.proofs.Views.{SeenAt, seen_now}
 use Rattle.tx_kv.proofs.ranges.rows_upto.Goals as goal
 
 pub returns-clause-finds : goal.returns-clause-finds

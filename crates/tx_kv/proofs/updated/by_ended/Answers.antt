@@ -1,6 +1,6 @@
 use Rattle.std.proofs.Common.{subst, sym}
 use Rattle.tx_kv.specs.Clients.{TellsEnd}
-use Rattle.tx_kv.proofs.Telling.{tells_end}
+use Rattle.tx_kv.proofs.UpdateResults.{tells_end}
 use Rattle.tx_kv.proofs.updated.by_ended.Goals as goal
 
 pub returns-clause-tells : goal.returns-clause-tells

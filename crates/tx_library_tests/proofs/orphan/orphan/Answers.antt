@@ -6,7 +6,7 @@ use Rattle.tx_core.specs.Recording.{MayRecord}
 use Rattle.tx_journal.specs.Known.{HasDrawn, HasRecorded}
 use Rattle.tx_journal.proofs.Calls.{may_begin_there}
 use Rattle.tx_journal.specs.Senders.{IsHeld}
-use Rattle.tx_client.proofs.Calling.{held_at}
+use Rattle.tx_client.proofs.Calls.{held_at}
 use Rattle.tx_library_tests.proofs.Orphans.{may_declare_both}
 use Rattle.tx_library_tests.proofs.orphan.orphan.Goals as goal
 

@@ -1,7 +1,7 @@
 use Rattle.std.proofs.Common.{◌++◌, List, ℕ, ap, sym, ◌∙◌}
 use Rattle.tx_types.specs.declared.value.Value.{Value}
 use Rattle.tx_cells.specs.Copies.{starts_down}
-use Rattle.tx_cells.proofs.Copying.{starts_step}
+use Rattle.tx_cells.proofs.EntryOrder.{starts_step}
 use Rattle.tx_nested.proofs.cells.starts.Goals as goal
 
 pub values-preserved : goal.values-preserved

@@ -2,7 +2,7 @@ use Rattle.std.proofs.Common.{sym}
 use Rattle.tx_transaction.specs.declared.state.Phase.TheVariants as phase
 use Rattle.tx_transaction.specs.Sessions.{can_commit, due_commit}
 use Rattle.tx_client.specs.Walks.{due_walk}
-use Rattle.tx_ops.proofs.Calling.{not_allowed, allowed_sent}
+use Rattle.tx_ops.proofs.CallWalks.{not_allowed, allowed_sent}
 use Rattle.tx_ops.proofs.calls.commit.Goals as goal
 
 pub returns-then-not-can_commit : goal.returns-then-not-can_commit

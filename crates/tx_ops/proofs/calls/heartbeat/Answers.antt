@@ -1,7 +1,7 @@
 use Rattle.std.proofs.Common.{sym}
 use Rattle.tx_transaction.specs.Sessions.{has_primary}
 use Rattle.tx_client.specs.Walks.{heartbeat_walk}
-use Rattle.tx_ops.proofs.Calling.{not_allowed, allowed_sent}
+use Rattle.tx_ops.proofs.CallWalks.{not_allowed, allowed_sent}
 use Rattle.tx_ops.proofs.calls.heartbeat.Goals as goal
 
 pub returns-then-not-has_primary : goal.returns-then-not-has_primary

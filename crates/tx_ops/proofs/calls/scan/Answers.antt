@@ -1,7 +1,7 @@
 use Rattle.std.proofs.Common.{ℕ, ◌&&◌, List, sym, subst, Ok}
 use Rattle.tx_types.specs.Lengths.{is_key}
 use Rattle.tx_client.specs.Walks.{Sends, scan_walk}
-use Rattle.tx_ops.proofs.Calling.{read_unkeyed, read_short, read_sent}
+use Rattle.tx_ops.proofs.CallWalks.{read_unkeyed, read_short, read_sent}
 use Rattle.tx_ops.proofs.calls.scan.Goals as goal
 
 pub returns-then-not-are_keys : goal.returns-then-not-are_keys

@@ -1,4 +1,4 @@
-use Rattle.tx_ops.proofs.Editing.{delete_told, delete_entered}
+use Rattle.tx_ops.proofs.EditEffects.{delete_told, delete_entered}
 use Rattle.tx_ops.proofs.edits.delete.Goals as goal
 
 pub returns-in-Ok-Some : goal.returns-in-Ok-Some

@@ -1,4 +1,4 @@
-use Rattle.tx_ops.proofs.Editing.{insert_told, insert_entered}
+use Rattle.tx_ops.proofs.EditEffects.{insert_told, insert_entered}
 use Rattle.tx_ops.proofs.edits.insert.Goals as goal
 
 pub returns-in-Ok-Some : goal.returns-in-Ok-Some

@@ -1,7 +1,7 @@
 use Rattle.std.proofs.Common.{true, false, is_some, ◌∙◌, ap}
 use Rattle.tx_transaction.specs.Buffers.{inserted}
 use Rattle.tx_transaction.specs.Sessions.{SessionState}
-use Rattle.tx_ops.proofs.Editing.{is_free, taken, inserted_so}
+use Rattle.tx_ops.proofs.EditEffects.{is_free, taken, inserted_so}
 use Rattle.tx_ops.proofs.edits.insert_new.Goals as goal
 
 pub returns-then-not-can_insert : goal.returns-then-not-can_insert

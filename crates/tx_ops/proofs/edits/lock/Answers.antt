@@ -1,4 +1,4 @@
-use Rattle.tx_ops.proofs.Editing.{lock_told, lock_entered}
+use Rattle.tx_ops.proofs.EditEffects.{lock_told, lock_entered}
 use Rattle.tx_ops.proofs.edits.lock.Goals as goal
 
 pub returns-in-Ok-Some : goal.returns-in-Ok-Some

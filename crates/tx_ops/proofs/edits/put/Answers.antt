@@ -1,4 +1,4 @@
-use Rattle.tx_ops.proofs.Editing.{put_told, put_entered}
+use Rattle.tx_ops.proofs.EditEffects.{put_told, put_entered}
 use Rattle.tx_ops.proofs.edits.put.Goals as goal
 
 pub returns-in-Ok-Some : goal.returns-in-Ok-Some

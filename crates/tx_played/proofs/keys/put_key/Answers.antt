@@ -7,8 +7,8 @@ use Rattle.std.specs.List.Sorted.{IsPartitionPoint}
 use Rattle.tx_types.specs.declared.key.Key.{Key}
 use Rattle.tx_types.specs.Keys.{AreRising}
 use Rattle.tx_played.specs.Played.{IsShowable}
-use Rattle.tx_played.proofs.Showing.{inserted}
-use Rattle.tx_played.proofs.Rising.{searched, rises_with}
+use Rattle.tx_played.proofs.ShownKeys.{inserted}
+use Rattle.tx_played.proofs.KeyOrder.{searched, rises_with}
 use Rattle.tx_played.proofs.keys.put_key.Goals as goal
 
 pub returns-in_ok-insert-clause-showable : goal.returns-in_ok-insert-clause-showable

@@ -1,6 +1,6 @@
 use Rattle.std.proofs.Common.{◌≡◌, ◌≤◌, ◌+◌, ◌++◌, ℕ, List, get_or, drop, ap, ◌∙◌, arith}
 use Rattle.tx_played.specs.Played.{places_from}
-use Rattle.tx_played.proofs.Placing.{weight, weighs, place_more, weight_more, all_places, stand_at}
+use Rattle.tx_played.proofs.LinePlaces.{weight, weighs, place_more, weight_more, all_places, stand_at}
 use Rattle.tx_played.proofs.places.places_of.Goals as goal
 
 pub counts-init : goal.counts-init

@@ -1,7 +1,7 @@
 use Rattle.std.proofs.Common.{◌≡◌, ◌≤◌, ◌+◌, ◌++◌, drop}
 use Rattle.tx_types.specs.declared.limits.TheConstants.{MAX_LINES}
 use Rattle.tx_played.specs.Played.{places_from}
-use Rattle.tx_played.proofs.Placing.{weight}
+use Rattle.tx_played.proofs.LinePlaces.{weight}
 use Rattle.tx_played.proofs.places.places_of.Given as goal
 
 abbrev pub invariant-counts : goal.invariant-counts

@@ -3,7 +3,7 @@ use Rattle.std.proofs.lemmas.List.{length-map, map-append}
 use Rattle.std.proofs.Math.ListN.{get_or-map}
 use Rattle.tx_played.specs.Played.{turned, turn_of}
 use Rattle.tx_played.specs.Turns.{seen}
-use Rattle.tx_played.proofs.TakingApart.{stops, goes_on}
+use Rattle.tx_played.proofs.ReplyTurns.{stops, goes_on}
 use Rattle.tx_played.proofs.turns.turns_of.Goals as goal
 
 abbrev now : Bor (List ℕ) → List ℕ

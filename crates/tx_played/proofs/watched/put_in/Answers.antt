@@ -3,7 +3,7 @@ use Rattle.std.proofs.lemmas.List.{length-map}
 use Rattle.std.proofs.Math.ListN.{get_or-map}
 use Rattle.tx_types.specs.declared.limits.TheConstants.{MAX_LINES}
 use Rattle.tx_played.specs.Played.{sends_at}
-use Rattle.tx_played.proofs.PuttingIn.{whole_text, too_many, left_after, text_grown, counts_now, count_behind}
+use Rattle.tx_played.proofs.Insertions.{whole_text, too_many, left_after, text_grown, counts_now, count_behind}
 use Rattle.tx_played.proofs.watched.put_in.Goals as goal
 use Rattle.tx_played.proofs.watched.put_in.Goals.{then-asks, else-asks}
 

@@ -1,5 +1,5 @@
 use Rattle.tx_progress.proofs.Calls.{scan_few, read_few, gc_few}
-use Rattle.tx_progress.proofs.Listing.{lists_fewer}
+use Rattle.tx_progress.proofs.KeyLists.{lists_fewer}
 use Rattle.tx_progress.proofs.requests.requests_are_few.Goals as goal
 
 pub returns-clause-scan : goal.returns-clause-scan

@@ -1,5 +1,5 @@
-use Rattle.tx_resolve.proofs.Knowing.{asked_more}
-use Rattle.tx_resolve.proofs.Hearing.{not_lost, to_collect}
+use Rattle.tx_resolve.proofs.Knowledge.{asked_more}
+use Rattle.tx_resolve.proofs.CollectorAnswers.{not_lost, to_collect}
 use Rattle.tx_resolve.proofs.collector.collect.Goals as goal
 
 pub collected_by-requires : goal.collected_by-requires

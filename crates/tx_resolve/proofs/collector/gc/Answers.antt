@@ -1,6 +1,6 @@
 use Rattle.std.proofs.Common.{Ok, Err, refl}
 use Rattle.tx_client.specs.Walks.{then_walk}
-use Rattle.tx_client.proofs.Looking.{sent_then}
+use Rattle.tx_client.proofs.Sends.{sent_then}
 use Rattle.tx_resolve.specs.Collection.{on_ok, raises_walk, clears_walk, collects_walk}
 use Rattle.tx_resolve.proofs.Regions.{is_fault}
 use Rattle.tx_resolve.proofs.collector.gc.Goals as goal

@@ -3,8 +3,8 @@ use Rattle.std.specs.Prelude.{Contains}
 use Rattle.tx_types.specs.declared.fault.Fault.{Fault}
 use Rattle.tx_types.specs.declared.lock.LockInfo.{LockInfo}
 use Rattle.tx_core.specs.Laws.{WasToldOf}
-use Rattle.tx_resolve.proofs.Knowing.{asked_more}
-use Rattle.tx_resolve.proofs.Hearing.{not_lost, to_list, listed_ok}
+use Rattle.tx_resolve.proofs.Knowledge.{asked_more}
+use Rattle.tx_resolve.proofs.CollectorAnswers.{not_lost, to_list, listed_ok}
 use Rattle.tx_resolve.proofs.collector.list.Goals as goal
 
 pub listed_by-requires : goal.listed_by-requires

@@ -1,5 +1,5 @@
-use Rattle.tx_resolve.proofs.Knowing.{asked_more}
-use Rattle.tx_resolve.proofs.Hearing.{not_lost, to_raise}
+use Rattle.tx_resolve.proofs.Knowledge.{asked_more}
+use Rattle.tx_resolve.proofs.CollectorAnswers.{not_lost, to_raise}
 use Rattle.tx_resolve.proofs.collector.raise.Goals as goal
 
 pub raised_by-requires : goal.raised_by-requires

@@ -2,7 +2,7 @@ use Rattle.std.proofs.Common.{◌+◌, drop, refl}
 use Rattle.tx_resolve.specs.Collection.{locks_walk}
 use Rattle.tx_resolve.specs.Resolution.{resolve_walk}
 use Rattle.tx_resolve.specs.declared.found.For.TheVariants.{Collector}
-use Rattle.tx_resolve.proofs.Knowing.{told_on, sent_more}
+use Rattle.tx_resolve.proofs.Knowledge.{told_on, sent_more}
 use Rattle.tx_resolve.proofs.Others.{next_of}
 use Rattle.tx_resolve.proofs.Regions.{more_resolved}
 use Rattle.tx_resolve.proofs.collector.resolve_each.Goals as goal

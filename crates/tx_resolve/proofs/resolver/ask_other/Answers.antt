@@ -4,11 +4,11 @@ use Rattle.tx_plan.specs.declared.body.Body.{Body}
 use Rattle.tx_core.specs.Allowed.{Allowed}
 use Rattle.tx_journal.specs.Senders.{IsHeld}
 use Rattle.tx_client.specs.Facts.{RespondsSo}
-use Rattle.tx_client.proofs.Calling.{held_at}
+use Rattle.tx_client.proofs.Calls.{held_at}
 use Rattle.tx_resolve.specs.Resolution.{other_of}
 use Rattle.tx_resolve.specs.Facts.{IsOther}
-use Rattle.tx_resolve.proofs.Knowing.{knows_on, asked_more}
-use Rattle.tx_resolve.proofs.Finding.{other_ok}
+use Rattle.tx_resolve.proofs.Knowledge.{knows_on, asked_more}
+use Rattle.tx_resolve.proofs.ResolverAnswers.{other_ok}
 use Rattle.tx_resolve.proofs.resolver.ask_other.Goals as goal
 
 pub ask-requires-clause-held : goal.ask-requires-clause-held

@@ -5,8 +5,8 @@ use Rattle.tx_client.specs.Walks.{Sends, Continues}
 use Rattle.tx_resolve.specs.declared.found.Other.TheVariants as other
 use Rattle.tx_resolve.specs.Resolution.{other_walk, others_walk}
 use Rattle.tx_resolve.specs.Facts.{HadLocks}
-use Rattle.tx_resolve.proofs.Knowing.{sent_more}
-use Rattle.tx_resolve.proofs.Allowing.{other_allowed}
+use Rattle.tx_resolve.proofs.Knowledge.{sent_more}
+use Rattle.tx_resolve.proofs.AllowedRequests.{other_allowed}
 use Rattle.tx_resolve.proofs.Greatest.{primarys_on, decided_greatest}
 use Rattle.tx_resolve.proofs.Others.{all_keys, next_of, took_key, more_asked, end_asked, more_locks}
 use Rattle.tx_resolve.proofs.resolver.ask_others.Goals as goal

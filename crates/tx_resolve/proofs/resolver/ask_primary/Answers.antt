@@ -3,12 +3,12 @@ use Rattle.tx_plan.specs.declared.body.Body.{Body}
 use Rattle.tx_core.specs.Allowed.{Allowed}
 use Rattle.tx_journal.specs.Senders.{IsHeld}
 use Rattle.tx_client.specs.Facts.{RespondsSo}
-use Rattle.tx_client.proofs.Calling.{held_at}
+use Rattle.tx_client.proofs.Calls.{held_at}
 use Rattle.tx_resolve.specs.Resolution.{check_of}
 use Rattle.tx_resolve.specs.Facts.{IsPrimary}
-use Rattle.tx_resolve.proofs.Knowing.{knows_on, asked_more}
-use Rattle.tx_resolve.proofs.Allowing.{check_allowed}
-use Rattle.tx_resolve.proofs.Finding.{primary_ok}
+use Rattle.tx_resolve.proofs.Knowledge.{knows_on, asked_more}
+use Rattle.tx_resolve.proofs.AllowedRequests.{check_allowed}
+use Rattle.tx_resolve.proofs.ResolverAnswers.{primary_ok}
 use Rattle.tx_resolve.proofs.resolver.ask_primary.Goals as goal
 
 pub ask-requires-clause-held : goal.ask-requires-clause-held

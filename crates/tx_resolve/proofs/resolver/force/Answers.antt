@@ -1,5 +1,5 @@
 use Rattle.std.specs.Prelude.{true}
-use Rattle.tx_client.proofs.Looking.{sent_then}
+use Rattle.tx_client.proofs.Sends.{sent_then}
 use Rattle.tx_resolve.specs.Resolution.{primary_walk, after_forced}
 use Rattle.tx_resolve.proofs.resolver.force.Goals as goal
 

@@ -1,4 +1,4 @@
-use Rattle.tx_client.proofs.Looking.{sent_then}
+use Rattle.tx_client.proofs.Sends.{sent_then}
 use Rattle.tx_resolve.specs.Resolution.{others_walk, after_others}
 use Rattle.tx_resolve.proofs.resolver.pursue.Goals as goal
 

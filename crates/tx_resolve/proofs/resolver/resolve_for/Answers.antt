@@ -1,5 +1,5 @@
 use Rattle.std.specs.Prelude.{false}
-use Rattle.tx_client.proofs.Looking.{sent_then}
+use Rattle.tx_client.proofs.Sends.{sent_then}
 use Rattle.tx_resolve.specs.Resolution.{primary_walk, after_primary}
 use Rattle.tx_resolve.proofs.resolver.resolve_for.Goals as goal
 

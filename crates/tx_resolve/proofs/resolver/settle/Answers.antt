@@ -4,10 +4,10 @@ use Rattle.tx_core.specs.Allowed.{Allowed}
 use Rattle.tx_core.proofs.seats.StaysDecided.{decided_on}
 use Rattle.tx_journal.specs.Senders.{IsHeld}
 use Rattle.tx_client.specs.Statuses.{Ends}
-use Rattle.tx_client.proofs.Calling.{held_at}
-use Rattle.tx_resolve.proofs.Knowing.{asked_more}
-use Rattle.tx_resolve.proofs.Allowing.{settle_allowed}
-use Rattle.tx_resolve.proofs.Finding.{settled_ok}
+use Rattle.tx_client.proofs.Calls.{held_at}
+use Rattle.tx_resolve.proofs.Knowledge.{asked_more}
+use Rattle.tx_resolve.proofs.AllowedRequests.{settle_allowed}
+use Rattle.tx_resolve.proofs.ResolverAnswers.{settled_ok}
 use Rattle.tx_resolve.proofs.resolver.settle.Goals as goal
 
 pub ask-requires-clause-held : goal.ask-requires-clause-held

@@ -13,7 +13,8 @@ returns c =
     let name = c.args.name.now in
     let turn = codes "\" transform=\"translate(56 " in
     if_ok c.extend_from_slice.result _ _ _ c.extend_from_slice.ensures.items (λ e.
-    after c.args.out.now.items (codes "<g class=\"") (kind ++ (turn ++ (height ++ (BOX.now ++ name)))) c.in_ok-put.ensures
+    after c.args.out.now.items (codes "<g class=\"") (kind ++ (turn ++ (height ++ (BOX.now ++ name))))
+    c.in_ok-put.ensures
     (after c.put.new.out.items kind (turn ++ (height ++ (BOX.now ++ name))) c.in_ok-put-2.ensures
     (after c.put-2.new.out.items turn (height ++ (BOX.now ++ name)) c.in_ok-put-3.ensures
     (after c.put-3.new.out.items height (BOX.now ++ name) c.in_ok-put_top.ensures

@@ -1,7 +1,7 @@
 use Rattle.std.proofs.Common.{◌≡◌, ◌<◌, ◌+◌, ◌^◌, length, map, take, get_or, sym, ap, subst, ◌∙◌, arith}
 use Rattle.std.proofs.lemmas.List.{length-map, length-take-le, get_or-map}
 use Rattle.tx_run.specs.Texts.{IsRoomy, counts_of, counted}
-use Rattle.tx_run.proofs.Counting.{counted_more, roomy}
+use Rattle.tx_run.proofs.OutcomeCounts.{counted_more, roomy}
 use Rattle.tx_run.proofs.counts.counts_of.Goals as goal
 
 pub add-requires : goal.add-requires

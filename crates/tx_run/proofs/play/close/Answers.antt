@@ -4,7 +4,7 @@ use Rattle.tx_core.specs.Histories.{History}
 use Rattle.tx_run.specs.Answers.{numbers_of}
 use Rattle.tx_run.specs.Jobs.{AreGathered}
 use Rattle.tx_run.specs.Tells.{TellsLine}
-use Rattle.tx_run.proofs.Gathering.{gathered_on}
+use Rattle.tx_run.proofs.AllAnswers.{gathered_on}
 use Rattle.tx_run.proofs.play.close.Goals as goal
 
 pub returns-clause-gathered : goal.returns-clause-gathered

@@ -1,4 +1,4 @@
-use Rattle.tx_run.proofs.Seating.{if_ok, from_dealt}
+use Rattle.tx_run.proofs.OwnSeats.{if_ok, from_dealt}
 use Rattle.tx_run.proofs.play.open.Goals as goal
 
 pub returns : goal.returns

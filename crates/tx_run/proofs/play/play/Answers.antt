@@ -1,8 +1,8 @@
 use Rattle.std.proofs.Common.{ℕ, List, sym, subst, ◌∙◌}
 use Rattle.tx_run.specs.Jobs.{AreGathered}
 use Rattle.tx_run.specs.LineNumbers.{numbers_in}
-use Rattle.tx_run.proofs.Gathering.{faults}
-use Rattle.tx_run.proofs.Seating.{if_ok}
+use Rattle.tx_run.proofs.AllAnswers.{faults}
+use Rattle.tx_run.proofs.OwnSeats.{if_ok}
 use Rattle.tx_run.proofs.play.play.Goals as goal
 
 pub returns-clause-comes : goal.returns-clause-comes

@@ -1,6 +1,6 @@
 use Rattle.tx_run.proofs.Evidence.{lines_tell_on}
-use Rattle.tx_run.proofs.Gathering.{outcomes_on}
-use Rattle.tx_run.proofs.Summing.{tells_total}
+use Rattle.tx_run.proofs.AllAnswers.{outcomes_on}
+use Rattle.tx_run.proofs.Totals.{tells_total}
 use Rattle.tx_run.proofs.play.sum_up.Goals as goal
 
 pub returns-clause-told : goal.returns-clause-told

@@ -2,8 +2,8 @@ use Rattle.std.proofs.Common.{map}
 use Rattle.tx_run.specs.LineNumbers.{numbers_in}
 use Rattle.tx_run.proofs.Evidence.{all_tell, opens_with}
 use Rattle.tx_run.proofs.OwnLines.{own_lines}
-use Rattle.tx_run.proofs.Keeping.{comes_of_text}
-use Rattle.tx_run.proofs.Writing.{from_played, on_any_err}
+use Rattle.tx_run.proofs.ReaderStates.{comes_of_text}
+use Rattle.tx_run.proofs.WrittenLines.{from_played, on_any_err}
 use Rattle.tx_run.proofs.run.run.Goals as goal
 
 pub returns-clause-comes : goal.returns-clause-comes
@@ -38,9 +38,11 @@ pub returns-in_err-write_all-clause-broken : goal.returns-in_err-write_all-claus
 returns-in_err-write_all-clause-broken g c =
     let script = c.in-Ok.script in
     let played = c.in_ok-played.played in
-    let tells = all_tell g.L.Source.text (numbers_in script.sessions.items) (map (λ seed. seed.number) script.seeds.items)
+    let tells = all_tell g.L.Source.text (numbers_in script.sessions.items)
+    (map (λ seed. seed.number) script.seeds.items)
     script.bounds.items played.seen played.replies (rw c.in-Ok.is at c.in_ok-script.ensures.kept)
     c.in_ok-played.ensures.tells c.in_ok-played.ensures.bounds in
     on_any_err _ _ (from_played g.L.Source.text (g.W.Write.contents c.args.writer.now)
     (g.W.Write.contents c.write_all.new.writer) played.seen played.replies played.total c.show.ensures
-    c.in_ok-played.ensures.told c.in_ok-played.ensures.pairs tells c.in_ok-played.ensures.total c.in_err-write_all.ensures.part)
+    c.in_ok-played.ensures.told c.in_ok-played.ensures.pairs tells c.in_ok-played.ensures.total
+    c.in_err-write_all.ensures.part)

@@ -1,6 +1,6 @@
 use Rattle.std.proofs.Common.{◌<◌, length, arith}
 use Rattle.tx_run.specs.LineNumbers.{number_of}
-use Rattle.tx_run.proofs.Keeping.{added_at}
+use Rattle.tx_run.proofs.ReaderStates.{added_at}
 use Rattle.tx_run.proofs.script.add_line.Goals as goal
 
 pub returns-in_ok-push-clause-added : goal.returns-in_ok-push-clause-added

@@ -6,8 +6,8 @@ use Rattle.tx_transfer.specs.Sources.{HasLine}
 use Rattle.tx_run.specs.LineNumbers.{numbers_in}
 use Rattle.tx_run.specs.ScriptLines.{KeepsText}
 use Rattle.tx_run.specs.Readers.{HasSorted}
-use Rattle.tx_run.proofs.Keeping.{before_whole}
-use Rattle.tx_run.proofs.Sourcing.{stands_first, line_read, stands_next, so_far_first, so_far_next, so_far_whole, long_fault, take_fault, few_lines}
+use Rattle.tx_run.proofs.ReaderStates.{before_whole}
+use Rattle.tx_run.proofs.Sources.{stands_first, line_read, stands_next, so_far_first, so_far_next, so_far_whole, long_fault, take_fault, few_lines}
 use Rattle.tx_run.proofs.script.read_script.Goals as goal
 
 pub loop-number-init : goal.loop-number-init

@@ -2,7 +2,7 @@ use Rattle.std.specs.Prelude.{◌<◌, ◌≤◌, ◌+◌, vec_len}
 use Rattle.tx_types.specs.declared.limits.TheConstants.{MAX_LINES}
 use Rattle.tx_run.specs.Scripts.{IsWithin}
 use Rattle.tx_run.specs.Readers.{HasSorted}
-use Rattle.tx_run.proofs.Sourcing.{SoFar, Stands}
+use Rattle.tx_run.proofs.Sources.{SoFar, Stands}
 use Rattle.tx_run.proofs.script.read_script.Given as goal
 
 abbrev pub invariant-loop-number : goal.invariant-loop-number

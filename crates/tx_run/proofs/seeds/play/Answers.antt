@@ -16,9 +16,10 @@ returns-in-Some-Seed-clause-tells g c =
     let number = c.args.script_line.now.number in
     let line = subst (λ (l : List ℕ). HasLine source number l) (sym c.as_slice.ensures.value)
     c.args.script_line.now.line in
-    let is = rw c.in-Ok-Ok.field-0-is at c.in-Ok-Ok.ensures in
+    let is = rw c.in-Ok-Ok.field-0-is at c.in-Ok-Ok.ensures.ok in
     let said = rw c.in-Some-Seed.is at c.step.ensures.said in
-    let says = step_made source number c.as_slice.result.now (data_of c.in-Ok-Ok.line) c.in-Some-Seed.field-0 line is said in
+    let says = step_made source number c.as_slice.result.now (data_of c.in-Ok-Ok.line) c.in-Some-Seed.field-0 line is
+    said in
     seed_tells source g.J.JournalId.bounds c.seed-seat.result.0.events number c.in-Some-Seed.key.now
     c.in-Some-Seed.value.now c.reply_to.result c.seed-seat.result.1 c.reply_to.ensures
     (subst (λ (s : Step (Bor Text)). Says source number (Some (asked s))) c.in-Some-Seed.field-0-is says)

@@ -5,7 +5,7 @@ use Rattle.tx_run.specs.declared.reply.LineReply.{LineReply}
 use Rattle.tx_run.specs.Answers.{IsReply, numbers_of}
 use Rattle.tx_run.specs.Tells.{TellsLine}
 use Rattle.tx_run.proofs.Evidence.{lines_tell_on}
-use Rattle.tx_run.proofs.Seeding.{one_more}
+use Rattle.tx_run.proofs.SeedAnswers.{one_more}
 use Rattle.tx_run.proofs.seeds.play_seeds.Goals as goal
 
 pub loop-line-preserved : goal.loop-line-preserved

@@ -1,7 +1,7 @@
 use Rattle.std.proofs.Common.{◌≡◌, ◌++◌}
 use Rattle.std.specs.List.{list_any}
 use Rattle.tx_run.specs.Jobs.{AreJoined, Output}
-use Rattle.tx_run.proofs.Gathering.{AreLeft}
+use Rattle.tx_run.proofs.AllAnswers.{AreLeft}
 use Rattle.tx_run.proofs.sessions.gather.Given as goal
 
 abbrev pub invariant-loop-output : goal.invariant-loop-output

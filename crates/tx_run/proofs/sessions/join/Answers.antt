@@ -8,9 +8,9 @@ use Rattle.tx_run.specs.Pairs.{TellsPair}
 use Rattle.tx_run.specs.Tells.{TellsLine}
 use Rattle.tx_run.specs.Logs.{TellsBy}
 use Rattle.tx_run.specs.Jobs.{IsAbove, Output, Joins}
-use Rattle.tx_run.proofs.Answering.{tells_on}
+use Rattle.tx_run.proofs.SessionAnswers.{tells_on}
 use Rattle.tx_run.proofs.Evidence.{lines_tell_on}
-use Rattle.tx_run.proofs.Gathering.{joined, joined_above, outcomes_on, all_above_on}
+use Rattle.tx_run.proofs.AllAnswers.{joined, joined_above, outcomes_on, all_above_on}
 use Rattle.tx_run.proofs.sessions.join.Goals as goal
 
 pub returns-clause-told : goal.returns-clause-told

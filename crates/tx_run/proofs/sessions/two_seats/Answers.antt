@@ -1,5 +1,5 @@
 use Rattle.std.proofs.Common.{◌+◌, length, arith}
-use Rattle.tx_run.proofs.Seating.{two_rest, two_seat}
+use Rattle.tx_run.proofs.OwnSeats.{two_rest, two_seat}
 use Rattle.tx_run.proofs.sessions.two_seats.Goals as goal
 
 pub returns-clause-rest : goal.returns-clause-rest

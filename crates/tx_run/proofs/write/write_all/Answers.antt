@@ -5,7 +5,7 @@ use Rattle.std.proofs.KnownBytes.{Appends-trans}
 use Rattle.tx_run.specs.Lines.{line_of}
 use Rattle.tx_text.specs.Output.{AppendsPart}
 use Rattle.tx_run.specs.Texts.{outcomes_text, total_text, counts_of}
-use Rattle.tx_run.proofs.Writing.{on_any_err, on_ok, on_err, part_first, part_then}
+use Rattle.tx_run.proofs.WrittenLines.{on_any_err, on_ok, on_err, part_first, part_then}
 use Rattle.tx_run.proofs.write.write_all.Goals as goal
 
 pub returns-in_err-write_lines-clause-part : goal.returns-in_err-write_lines-clause-part

@@ -4,7 +4,7 @@ use Rattle.std.proofs.KnownBytes.{Appends-kept, Keeps-refl}
 use Rattle.tx_text.specs.Faults.{fault_words}
 use Rattle.tx_text.specs.Members.{reply_text}
 use Rattle.tx_text.specs.Output.{AppendsPart}
-use Rattle.tx_run.proofs.Writing.{on_any_ok, on_any_err, part_none, part_all}
+use Rattle.tx_run.proofs.WrittenLines.{on_any_ok, on_any_err, part_none, part_all}
 use Rattle.tx_run.proofs.write.write_fault.Goals as goal
 
 pub returns-in_err-put_fault-clause-part : goal.returns-in_err-put_fault-clause-part

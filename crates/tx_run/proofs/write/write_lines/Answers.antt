@@ -2,7 +2,7 @@ use Rattle.std.proofs.Common.{◌≡◌, ◌++◌, ℕ, List, [], get_or, sym, a
 use Rattle.std.specs.Io.KnownBytes.{Appends}
 use Rattle.tx_run.specs.Lines.{line_of}
 use Rattle.tx_text.specs.Output.{AppendsPart}
-use Rattle.tx_run.proofs.Writing.{on_any_err, each_more, each_none, each_part}
+use Rattle.tx_run.proofs.WrittenLines.{on_any_err, each_more, each_none, each_part}
 use Rattle.tx_run.proofs.write.write_lines.Goals as goal
 
 -- what is sent: the line that was put into an empty text

@@ -3,7 +3,7 @@ use Rattle.std.specs.Io.KnownBytes.{Appends}
 use Rattle.std.proofs.KnownBytes.{Appends-kept}
 use Rattle.tx_run.specs.Texts.{outcomes_text, total_text}
 use Rattle.tx_text.specs.Output.{AppendsPart}
-use Rattle.tx_run.proofs.Writing.{on_any_ok, on_any_err, part_none, part_all}
+use Rattle.tx_run.proofs.WrittenLines.{on_any_ok, on_any_err, part_none, part_all}
 use Rattle.tx_run.proofs.write.write_sums.Goals as goal
 
 text_is : (bytes all mid none first second : List ℕ) → bytes ≡ all → all ≡ mid ++ second → mid ≡ none ++ first

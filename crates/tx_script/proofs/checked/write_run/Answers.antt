@@ -4,7 +4,7 @@ use Rattle.tx_text.specs.Texts.{line_text}
 use Rattle.tx_check.specs.declared.words.Verdict.TheVariants.{Yes}
 use Rattle.tx_check.specs.Words.{words}
 use Rattle.tx_script.proofs.Scripts.{if_err_is}
-use Rattle.tx_script.proofs.Ending.{then_ok, then_err}
+use Rattle.tx_script.proofs.Ends.{then_ok, then_err}
 use Rattle.tx_script.proofs.Begun.{appends_more, appends_after, appends_last}
 use Rattle.tx_script.proofs.checked.write_run.Goals as goal
 

@@ -14,7 +14,7 @@ use Rattle.tx_check.specs.Words.{words}
 use Rattle.tx_script.specs.Loops.{AppendsBegun, AreOf}
 use Rattle.tx_script.specs.Checked.{step_lines}
 use Rattle.tx_script.proofs.Begun.{appends_none}
-use Rattle.tx_script.proofs.Ending.{then_ok, then_err}
+use Rattle.tx_script.proofs.Ends.{then_ok, then_err}
 use Rattle.tx_script.proofs.checked.write_trace.Goals as goal
 
 -- the steps, oldest first, are those of the history

@@ -1,7 +1,7 @@
 use Rattle.std.proofs.Common.{refl, sym, subst}
 use Rattle.tx_types.specs.declared.fault.Cause.TheVariants.{Long}
 use Rattle.tx_script.specs.declared.line.Turned.TheVariants.{End, Stops}
-use Rattle.tx_engine.proofs.Keeping.{rested}
+use Rattle.tx_engine.proofs.SlotCounts.{rested}
 use Rattle.tx_script.specs.Loops.{FoundTurned}
 use Rattle.tx_script.proofs.line.play_found.Goals as goal
 

@@ -16,7 +16,7 @@ use Rattle.tx_check.specs.Words.{words}
 use Rattle.tx_script.specs.Numbered.{numbered_lines}
 use Rattle.tx_script.specs.Loops.{AppendsBegun, AreOf, TellsNumbers, BeginsNumbers}
 use Rattle.tx_script.proofs.Begun.{appends_none}
-use Rattle.tx_script.proofs.Ending.{then_ok, then_err}
+use Rattle.tx_script.proofs.Ends.{then_ok, then_err}
 use Rattle.tx_script.proofs.numbered.write_kept.Goals as goal
 
 -- the steps, oldest first, are those of the history

@@ -4,8 +4,8 @@ use Rattle.tx_engine.specs.Slots.{Held}
 use Rattle.tx_network.specs.Networks.{IsTraced}
 use Rattle.tx_script.specs.Loops.{AreOf}
 use Rattle.tx_script.proofs.Scripts.{if_err_is}
-use Rattle.tx_script.proofs.Ending.{breaks_lines}
-use Rattle.tx_script.proofs.Checking.{opens_too, seated_too, traced_first, are_of, are_run, ends_checked, breaks_after}
+use Rattle.tx_script.proofs.Ends.{breaks_lines}
+use Rattle.tx_script.proofs.Checks.{opens_too, seated_too, traced_first, are_of, are_run, ends_checked, breaks_after}
 use Rattle.tx_script.proofs.script.check_over.Goals as goal
 
 pub play_lines-ended-requires-clause-opening : goal.play_lines-ended-requires-clause-opening

@@ -1,4 +1,4 @@
-use Rattle.tx_script.proofs.Checking.{it_came, it_is_run}
+use Rattle.tx_script.proofs.Checks.{it_came, it_is_run}
 use Rattle.tx_script.proofs.script.close.Goals as goal
 
 pub returns-clause-came : goal.returns-clause-came

@@ -4,8 +4,8 @@ use Rattle.tx_engine.specs.Slots.{Held}
 use Rattle.tx_network.specs.Networks.{IsTraced}
 use Rattle.tx_script.specs.Loops.{AreOf}
 use Rattle.tx_script.proofs.Scripts.{if_err_is}
-use Rattle.tx_script.proofs.Ending.{breaks_lines}
-use Rattle.tx_script.proofs.Checking.{opens_too, seated_too, traced_first, are_of, are_run}
+use Rattle.tx_script.proofs.Ends.{breaks_lines}
+use Rattle.tx_script.proofs.Checks.{opens_too, seated_too, traced_first, are_of, are_run}
 use Rattle.tx_script.proofs.NumberedEnds.{ends_numbered, breaks_numbered}
 use Rattle.tx_script.proofs.script.number_over.Goals as goal
 

@@ -1,4 +1,4 @@
-use Rattle.tx_script.proofs.Ending.{ends_lines, breaks_lines, then_ok, then_err}
+use Rattle.tx_script.proofs.Ends.{ends_lines, breaks_lines, then_ok, then_err}
 use Rattle.tx_script.proofs.script.simulate_over.Goals as goal
 
 pub returns-clause-ends : goal.returns-clause-ends

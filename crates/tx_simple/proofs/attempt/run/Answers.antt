@@ -1,5 +1,5 @@
-use Rattle.tx_simple.proofs.Going.{goes_more}
-use Rattle.tx_simple.proofs.Placing.{writes_after}
+use Rattle.tx_simple.proofs.CallSequences.{goes_more}
+use Rattle.tx_simple.proofs.CommitOrder.{writes_after}
 use Rattle.tx_simple.proofs.attempt.run.Goals as goal
 
 pub returns-in-Ok-clause-session : goal.returns-in-Ok-clause-session

@@ -1,8 +1,13 @@
 use Rattle.std.proofs.Common.{◌<◌, refl, sym, subst}
 use Rattle.tx_journal.specs.Known.{Known}
-use Rattle.tx_simple.proofs.Going.{goes_itself}
-use Rattle.tx_simple.proofs.Retrying.{ended_over, unended_in}
+use Rattle.tx_simple.proofs.ReadReplies.{began_drawn}
+use Rattle.tx_simple.proofs.CallSequences.{goes_itself}
+use Rattle.tx_simple.proofs.Retries.{ended_over, unended_in}
 use Rattle.tx_simple.proofs.attempt.try_once.Goals as goal
+
+pub run-session-requires-clause-drawn : goal.run-session-requires-clause-drawn
+run-session-requires-clause-drawn g c =
+    began_drawn g.J.JournalId.bounds c.args.seats.begins c.in-Ok.session c.in-Ok.ensures.ok.1
 
 pub returns-in-Ok-clause-ended : goal.returns-in-Ok-clause-ended
 returns-in-Ok-clause-ended g c =

@@ -1,7 +1,7 @@
 use Rattle.std.proofs.Common.{rules, ap}
 use Rattle.tx_transaction.specs.Sessions.{SessionState, declaration}
-use Rattle.tx_simple.proofs.Going.{goes_itself, follows_same, declares_goes}
-use Rattle.tx_simple.proofs.Placing.{writes_nothing, writes_empty, writes_placed, some_entered}
+use Rattle.tx_simple.proofs.CallSequences.{goes_itself, follows_same, declares_goes}
+use Rattle.tx_simple.proofs.CommitOrder.{writes_nothing, writes_empty, writes_placed, some_entered}
 use Rattle.tx_simple.proofs.attempt.write.Goals as goal
 
 pub returns-in-Err-clause-session : goal.returns-in-Err-clause-session

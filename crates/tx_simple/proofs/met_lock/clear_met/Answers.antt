@@ -1,4 +1,4 @@
-use Rattle.tx_simple.proofs.Going.{goes_itself, follows_same, resolved_goes}
+use Rattle.tx_simple.proofs.CallSequences.{goes_itself, follows_same, resolved_goes}
 use Rattle.tx_simple.proofs.met_lock.clear_met.Goals as goal
 
 pub returns-in_err-met-clause-session : goal.returns-in_err-met-clause-session

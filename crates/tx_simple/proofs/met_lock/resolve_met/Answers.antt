@@ -1,7 +1,7 @@
 use Rattle.std.proofs.Common.{sym, subst}
 use Rattle.tx_core.specs.Histories.{History, Begins}
 use Rattle.tx_core.specs.Laws.{WasToldOf}
-use Rattle.tx_resolve.proofs.Knowing.{told_on}
+use Rattle.tx_resolve.proofs.Knowledge.{told_on}
 use Rattle.tx_simple.proofs.met_lock.resolve_met.Goals as goal
 
 -- what the lock was told of, the seat has learnt

@@ -3,7 +3,7 @@ use Rattle.std.proofs.Math.Numerals.{add-one}
 use Rattle.tx_types.specs.declared.mutation.Change.{Change}
 use Rattle.tx_types.specs.declared.mutation.KeyValue.{KeyValue}
 use Rattle.tx_simple.specs.Ranges.{is_in_range}
-use Rattle.tx_simple.proofs.Entering.{entered_step, passed_step_later, passed_step_outside, passed_step_unseen}
+use Rattle.tx_simple.proofs.Entries.{entered_step, passed_step_later, passed_step_outside, passed_step_unseen}
 use Rattle.tx_simple.proofs.rows.enter_over.Goals.{then-is_visible+then-contains+then-not-is_entered+in_ok-clone+in_ok-value_of+in_ok-set_value, else-is_visible, else-is_visible-via-then-is_visible+then-contains+else-not-is_entered, else-is_visible-via-then-is_visible+else-contains, else-is_visible-via-else-is_visible}
 use Rattle.tx_simple.proofs.rows.enter_over.Goals as goal
 
@@ -24,8 +24,8 @@ loop-i-preserved c =
           (take (c.loop-i.i + 1) changes) change w.in_ok-clone.field-0 w.in_ok-value_of.field-0 seam
           c.loop-i.invariant (sym c.is_visible.ensures.test ∙ w.if-is_visible.true)
           (sym w.contains.ensures ∙ w.if-contains.true) (sym w.is_entered.ensures ∙ w.if-not-is_entered.true)
-          w.in_ok-clone.ensures.ok w.in_ok-value_of.ensures
-          (ap (λ v. v.items) w.rows-is ∙ w.in_ok-set_value.ensures)
+          w.in_ok-clone.ensures.ok w.in_ok-value_of.ensures.ok
+          (ap (λ v. v.items) w.rows-is ∙ w.in_ok-set_value.ensures.ok)
       | else-is_visible w ↦ elim w.else-is_visible.branch [
         | else-is_visible-via-then-is_visible+then-contains+else-not-is_entered v ↦
             passed_step_later test old new c.if-is_visible.rows.items (take c.loop-i.i changes)

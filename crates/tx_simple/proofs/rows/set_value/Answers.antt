@@ -2,12 +2,12 @@ use Rattle.std.proofs.Common.{◌≡◌, None, List, sym, ap, ◌∙◌, rules}
 use Rattle.std.specs.List.{insert, remove}
 use Rattle.tx_types.specs.declared.mutation.KeyValue.{KeyValue}
 use Rattle.tx_simple.specs.Ranges.{row_with, with_value}
-use Rattle.tx_simple.proofs.Entering.{first_at, kept, place, put_in, removed}
+use Rattle.tx_simple.proofs.Entries.{first_at, kept, place, put_in, removed}
 use Rattle.tx_simple.proofs.rows.set_value.Goals.{then-is_first_of, else-is_first_of, in-Some+in_ok-insert, in_default}
 use Rattle.tx_simple.proofs.rows.set_value.Goals as goal
 
-pub returns : goal.returns
-returns c =
+pub returns-clause-ok : goal.returns-clause-ok
+returns-clause-ok c =
     let rows : List KeyValue = c.args.rows.now.items in
     let key = c.args.key in
     let at : c.place_of-at.result ≡ place rows key = search rules in

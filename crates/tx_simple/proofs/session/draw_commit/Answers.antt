@@ -1,4 +1,4 @@
-use Rattle.tx_simple.proofs.Going.{follows_itself, follows_same, follows_draw}
+use Rattle.tx_simple.proofs.CallSequences.{follows_itself, follows_same, follows_draw}
 use Rattle.tx_simple.proofs.session.draw_commit.Goals as goal
 
 pub returns-in_err-draw_commit : goal.returns-in_err-draw_commit

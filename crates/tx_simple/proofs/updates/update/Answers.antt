@@ -1,5 +1,5 @@
 use Rattle.std.proofs.Common.{◌+◌, ◌∙◌, arith, sym, subst}
-use Rattle.tx_simple.proofs.Retrying.{InVain, vain_itself, over_after, unended_after, if_over_after, if_unended_after, vain_again}
+use Rattle.tx_simple.proofs.Retries.{InVain, vain_itself, over_after, unended_after, if_over_after, if_unended_after, vain_again}
 use Rattle.tx_simple.proofs.updates.update.Goals as goal
 
 pub loop-tries-init : goal.loop-tries-init
@@ -11,31 +11,37 @@ loop-tries-preserved g c =
     (λ s. InVain g.W.Work.does g.J.JournalId.bounds c.args.terms (c.loop-tries.tries + 1) c.args.seats c.args.work.now s
     c.try_once.new.work)
     (sym c.into_seats-seats.ensures)
-    (vain_again g.W.Work.does g.J.JournalId.bounds c.args.terms c.loop-tries.tries c.args.seats c.loop-tries.seats c.in-Ok.ended
+    (vain_again g.W.Work.does g.J.JournalId.bounds c.args.terms c.loop-tries.tries c.args.seats c.loop-tries.seats
+    c.in-Ok.ended
     c.args.work.now c.loop-tries.work c.try_once.new.work c.loop-tries.invariant c.in-Ok.ensures.ended
     (c.may_pass.ensures.effect c.if-not-may_pass.false) (sym c.may_pass.ensures.passes ∙ c.if-not-may_pass.false))
 
 pub returns-in-Err-clause-unended : goal.returns-in-Err-clause-unended
 returns-in-Err-clause-unended g c =
-    unended_after g.W.Work.does g.J.JournalId.bounds c.args.terms c.loop-tries.tries c.args.again (omega arith) c.args.seats c.loop-tries.seats c.in-Err.unended
+    unended_after g.W.Work.does g.J.JournalId.bounds c.args.terms c.loop-tries.tries c.args.again (omega arith)
+    c.args.seats c.loop-tries.seats c.in-Err.unended
     c.args.work.now c.loop-tries.work c.try_once.new.work c.loop-tries.invariant c.in-Err.ensures.unended
 
 pub returns-then-not-may_pass-clause-ended : goal.returns-then-not-may_pass-clause-ended
 returns-then-not-may_pass-clause-ended g c =
-    over_after g.W.Work.does g.J.JournalId.bounds c.args.terms c.loop-tries.tries c.args.again (omega arith) c.args.seats c.loop-tries.seats c.in-Ok.ended
+    over_after g.W.Work.does g.J.JournalId.bounds c.args.terms c.loop-tries.tries c.args.again (omega arith)
+    c.args.seats c.loop-tries.seats c.in-Ok.ended
     c.args.work.now c.loop-tries.work c.try_once.new.work c.loop-tries.invariant c.in-Ok.ensures.ended
 
 pub returns-then-not-may_go_on-clause-ended : goal.returns-then-not-may_go_on-clause-ended
 returns-then-not-may_go_on-clause-ended g c =
-    over_after g.W.Work.does g.J.JournalId.bounds c.args.terms c.loop-tries.tries c.args.again (omega arith) c.args.seats c.loop-tries.seats c.in-Ok.ended
+    over_after g.W.Work.does g.J.JournalId.bounds c.args.terms c.loop-tries.tries c.args.again (omega arith)
+    c.args.seats c.loop-tries.seats c.in-Ok.ended
     c.args.work.now c.loop-tries.work c.try_once.new.work c.loop-tries.invariant c.in-Ok.ensures.ended
 
 pub returns-clause-ended : goal.returns-clause-ended
 returns-clause-ended g c =
-    if_over_after g.W.Work.does g.J.JournalId.bounds c.args.terms c.loop-tries.tries c.args.again (omega arith) c.args.seats c.loop-tries.seats c.try_once-2.result
+    if_over_after g.W.Work.does g.J.JournalId.bounds c.args.terms c.loop-tries.tries c.args.again (omega arith)
+    c.args.seats c.loop-tries.seats c.try_once-2.result
     c.args.work.now c.loop-tries.work c.try_once-2.new.work c.loop-tries.invariant c.try_once-2.ensures.ended
 
 pub returns-clause-unended : goal.returns-clause-unended
 returns-clause-unended g c =
-    if_unended_after g.W.Work.does g.J.JournalId.bounds c.args.terms c.loop-tries.tries c.args.again (omega arith) c.args.seats c.loop-tries.seats c.try_once-2.result
+    if_unended_after g.W.Work.does g.J.JournalId.bounds c.args.terms c.loop-tries.tries c.args.again (omega arith)
+    c.args.seats c.loop-tries.seats c.try_once-2.result
     c.args.work.now c.loop-tries.work c.try_once-2.new.work c.loop-tries.invariant c.try_once-2.ensures.unended

@@ -1,4 +1,4 @@
-use Rattle.tx_simple.proofs.Retrying.{InVain}
+use Rattle.tx_simple.proofs.Retries.{InVain}
 use Rattle.tx_simple.proofs.updates.update.Given as goal
 
 -- each try so far came to nothing, and they are at most as many as were made again

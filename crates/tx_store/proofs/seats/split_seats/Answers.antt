@@ -1,5 +1,5 @@
 use Rattle.std.proofs.Common.{length, ap, arith}
-use Rattle.tx_store.proofs.Making.{are_dealt, dealt_in_front}
+use Rattle.tx_store.proofs.DealtSeats.{are_dealt, dealt_in_front}
 use Rattle.tx_store.proofs.seats.split_seats.Goals as goal
 
 -- the seats of the regions are those that were dealt first

@@ -8,14 +8,14 @@ use Rattle.tx_core.specs.declared.event.Event.TheVariants.{Took}
 use Rattle.tx_core.specs.Histories.{History, last, WasLast, Begins}
 use Rattle.tx_core.specs.ReadMarks.{max_ts}
 use Rattle.tx_core.specs.Recording.{Extends, MayRecord}
-use Rattle.tx_core.proofs.seats.Answering.{left_on}
+use Rattle.tx_core.proofs.seats.Replies.{left_on}
 use Rattle.tx_core.proofs.seats.ReadMarks.{taken_raises}
 use Rattle.tx_core.proofs.seats.Recording.{may_take}
-use Rattle.tx_core.proofs.seats.Staying.{last_was}
+use Rattle.tx_core.proofs.seats.Stays.{last_was}
 use Rattle.tx_journal.specs.Known.{HasSeen, HasRecorded}
 use Rattle.tx_journal.specs.Replies.{IsGiven}
 use Rattle.tx_journal.proofs.Calls.{seen_more}
-use Rattle.tx_journal.proofs.Replying.{tells_of, given_of}
+use Rattle.tx_journal.proofs.Replies.{tells_of, given_of}
 use Rattle.tx_theory_tests.proofs.journal.raise.Goals as goal
 
 -- a region that has taken nothing may raise its safe point to 0

@@ -9,10 +9,10 @@ use Rattle.tx_core.specs.declared.event.Event.TheVariants.{Took}
 use Rattle.tx_core.specs.Histories.{History, last, WasLast}
 use Rattle.tx_core.specs.ReadMarks.{max_ts}
 use Rattle.tx_core.specs.Recording.{Extends, MayRecord}
-use Rattle.tx_core.proofs.seats.Answering.{left_on}
+use Rattle.tx_core.proofs.seats.Replies.{left_on}
 use Rattle.tx_core.proofs.seats.ReadMarks.{taken_raises}
 use Rattle.tx_core.proofs.seats.Recording.{may_take}
-use Rattle.tx_core.proofs.seats.Staying.{last_was}
+use Rattle.tx_core.proofs.seats.Stays.{last_was}
 use Rattle.tx_journal.specs.Known.{HasSeen}
 use Rattle.tx_theory_tests.proofs.journal.read.Goals as goal
 

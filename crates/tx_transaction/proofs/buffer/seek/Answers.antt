@@ -1,5 +1,5 @@
 use Rattle.std.proofs.Common.{Some, arith, ap, sym, ◌∙◌, ◌<◌, length}
-use Rattle.tx_transaction.proofs.Finding.{first_there, nowhere}
+use Rattle.tx_transaction.proofs.Lookups.{first_there, nowhere}
 use Rattle.tx_transaction.proofs.buffer.seek.Goals as goal
 
 pub returns-then-is_at : goal.returns-then-is_at

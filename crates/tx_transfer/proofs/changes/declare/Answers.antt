@@ -1,7 +1,7 @@
 use Rattle.std.proofs.Common.{sym, subst}
 use Rattle.tx_client.specs.Calls.{Seated}
 use Rattle.tx_transfer.specs.Transfers.{Moves}
-use Rattle.tx_transfer.proofs.Transferring.{entered_once, entered_twice, declared_both}
+use Rattle.tx_transfer.proofs.TransferWrites.{entered_once, entered_twice, declared_both}
 use Rattle.tx_transfer.proofs.changes.declare.Goals as goal
 
 pub returns-in_err-enter-2 : goal.returns-in_err-enter-2

@@ -1,9 +1,9 @@
 use Rattle.std.proofs.Common.{refl, sym, subst}
 use Rattle.tx_steps.specs.Steps.{acted}
 use Rattle.tx_ops.specs.Calls.{Said}
-use Rattle.tx_ops.proofs.Saying.{does_says}
+use Rattle.tx_ops.proofs.EditReplies.{does_says}
 use Rattle.tx_transfer.specs.Acts.{Acts}
-use Rattle.tx_transfer.proofs.Operating.{IsPlain, acts_alone}
+use Rattle.tx_transfer.proofs.LineActs.{IsPlain, acts_alone}
 use Rattle.tx_transfer.proofs.operations.act.Goals as goal
 
 pub told-requires : goal.told-requires

@@ -2,7 +2,7 @@ use Rattle.std.proofs.Common.{◌≢◌, Ok, sym, subst}
 use Rattle.tx_reply.specs.declared.reply.ScriptReply.TheVariants as reply
 use Rattle.tx_steps.specs.Steps.{called}
 use Rattle.tx_ops.specs.Calls.{Said, call_walk}
-use Rattle.tx_transfer.specs.Sending.{SendsOver}
+use Rattle.tx_transfer.specs.Sends.{SendsOver}
 use Rattle.tx_transfer.proofs.operations.send.Goals as goal
 
 pub returns-clause-sends : goal.returns-clause-sends

@@ -1,10 +1,14 @@
 use Rattle.tx_transaction.specs.declared.state.Phase.TheVariants as phase
 use Rattle.tx_transaction.specs.Sessions.{due_abort}
-use Rattle.tx_client.proofs.Keeping.{keeps_due}
+use Rattle.tx_client.proofs.WriteSets.{keeps_due}
 use Rattle.tx_transfer.proofs.requests.abort.Goals as goal
 
-pub returns : goal.returns
-returns g c =
+pub returns-clause-sends : goal.returns-clause-sends
+returns-clause-sends g c = c.abort_next.ensures
+
+pub returns-clause-set : goal.returns-clause-set
+returns-clause-set g c =
     let s = c.args.session.now.state in
     keeps_due g.S.Sender.sends g.J.JournalId.bounds c.args.session.now.seat c.abort_next.new.self.seat c.args.sender.now
-    c.abort_next.new.sender s phase.Abort (due_abort s) (c.abort_next.new.self.state, c.abort_next.result) c.abort_next.ensures
+    c.abort_next.new.sender s phase.Abort (due_abort s) (c.abort_next.new.self.state, c.abort_next.result)
+    c.abort_next.ensures

@@ -1,10 +1,10 @@
 use Rattle.std.proofs.Common.{refl}
 use Rattle.tx_steps.specs.Steps.{called}
 use Rattle.tx_ops.specs.Calls.{call_walk}
-use Rattle.tx_ops.proofs.Ending.{call_says}
+use Rattle.tx_ops.proofs.CallEnds.{call_says}
 use Rattle.tx_ops.proofs.Answered.{call_answered}
-use Rattle.tx_transfer.proofs.Operating.{IsPlain, never_lost}
-use Rattle.tx_transfer.proofs.Sending.{replies_came, sent_as, sent_keeps}
+use Rattle.tx_transfer.proofs.LineActs.{IsPlain, never_lost}
+use Rattle.tx_transfer.proofs.Sends.{replies_came, sent_as, sent_keeps}
 use Rattle.tx_transfer.proofs.requests.call.Goals as goal
 
 pub returns-clause-sends : goal.returns-clause-sends

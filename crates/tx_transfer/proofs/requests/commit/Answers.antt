@@ -1,17 +1,23 @@
 use Rattle.tx_transaction.specs.declared.state.Phase.TheVariants as phase
 use Rattle.tx_transaction.specs.Sessions.{due_commit}
-use Rattle.tx_client.proofs.Keeping.{keeps_due}
-use Rattle.tx_transfer.proofs.Seeding.{puts_due}
+use Rattle.tx_client.proofs.WriteSets.{keeps_due}
+use Rattle.tx_transfer.proofs.SeedWrites.{puts_due}
 use Rattle.tx_transfer.proofs.requests.commit.Goals as goal
+
+pub returns-clause-sends : goal.returns-clause-sends
+returns-clause-sends g c = c.commit_next.ensures
 
 pub returns-clause-set : goal.returns-clause-set
 returns-clause-set g c =
     let s = c.args.session.now.state in
-    keeps_due g.S.Sender.sends g.J.JournalId.bounds c.args.session.now.seat c.commit_next.new.self.seat c.args.sender.now
-    c.commit_next.new.sender s phase.Commit (due_commit s) (c.commit_next.new.self.state, c.commit_next.result) c.commit_next.ensures
+    keeps_due g.S.Sender.sends g.J.JournalId.bounds c.args.session.now.seat c.commit_next.new.self.seat
+    c.args.sender.now
+    c.commit_next.new.sender s phase.Commit (due_commit s) (c.commit_next.new.self.state, c.commit_next.result)
+    c.commit_next.ensures
 
 pub returns-clause-put : goal.returns-clause-put
 returns-clause-put g c =
     let s = c.args.session.now.state in
     puts_due g.S.Sender.sends g.J.JournalId.bounds c.args.session.now.seat c.commit_next.new.self.seat c.args.sender.now
-    c.commit_next.new.sender s phase.Commit (due_commit s) (c.commit_next.new.self.state, c.commit_next.result) c.commit_next.ensures
+    c.commit_next.new.sender s phase.Commit (due_commit s) (c.commit_next.new.self.state, c.commit_next.result)
+    c.commit_next.ensures

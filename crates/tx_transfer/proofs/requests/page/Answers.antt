@@ -2,6 +2,9 @@ use Rattle.std.proofs.Common.{refl}
 use Rattle.tx_transfer.proofs.Totals.{page_start, page_knows, page_of}
 use Rattle.tx_transfer.proofs.requests.page.Goals as goal
 
+pub returns-clause-sends : goal.returns-clause-sends
+returns-clause-sends g c = c.scan-answered.ensures
+
 pub returns-clause-start : goal.returns-clause-start
 returns-clause-start g c = page_start g.S.Sender.sends g.J.JournalId.bounds c.args.from.now c.args.to.now
     c.args.session.now c.scan-answered.new.self c.args.sender.now c.scan-answered.new.sender c.scan-answered.result

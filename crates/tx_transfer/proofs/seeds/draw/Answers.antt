@@ -2,7 +2,7 @@ use Rattle.std.proofs.Common.{sym, ap, subst}
 use Rattle.tx_transaction.specs.Sessions.{SessionState}
 use Rattle.tx_client.specs.Calls.{Seated}
 use Rattle.tx_transfer.specs.Seeds.{PutsJust}
-use Rattle.tx_transfer.proofs.Seeding.{keeps_same}
+use Rattle.tx_transfer.proofs.SeedWrites.{keeps_same}
 use Rattle.tx_transfer.proofs.seeds.draw.Goals as goal
 
 pub returns-then-not-can_draw-clause-keeps : goal.returns-then-not-can_draw-clause-keeps

@@ -1,4 +1,4 @@
-use Rattle.tx_transfer.proofs.Seeding.{was_seeded}
+use Rattle.tx_transfer.proofs.SeedWrites.{was_seeded}
 use Rattle.tx_transfer.proofs.seeds.end.Goals as goal
 
 pub returns-in-Ok-Committed-default : goal.returns-in-Ok-Committed-default

@@ -1,7 +1,7 @@
 use Rattle.std.proofs.Common.{List, ℕ, OnOk, subst}
 use Rattle.tx_core.proofs.seats.Beginnings.{begins_all}
 use Rattle.tx_transfer.specs.Seeds.{WasSeeded}
-use Rattle.tx_transfer.proofs.Seeding.{seeded_seen}
+use Rattle.tx_transfer.proofs.SeedWrites.{seeded_seen}
 use Rattle.tx_transfer.proofs.seeds.seed.Goals as goal
 
 pub returns-in-Err-clause-knows : goal.returns-in-Err-clause-knows

@@ -2,7 +2,7 @@
 use Rattle.std.proofs.Common.{◌≡◌, ℕ, ◌+◌, ◌<◌, length, arith, ap, refl, sym, subst, IsTrue, ◌&&◌}
 use Rattle.tx_history.specs.Records.{writers_of}
 use Rattle.tx_verdict.specs.Forced.{IsBased, IsLinked}
-use Rattle.tx_verdict.proofs.Chaining.{more_links}
+use Rattle.tx_verdict.proofs.Chains.{more_links}
 use Rattle.tx_verdict.proofs.chain.is_chain.Goals as goal
 
 pub loop-i-preserved : goal.loop-i-preserved

@@ -3,7 +3,7 @@ use Rattle.std.proofs.Common.{◌≡◌, ◌<◌, length, get_or, arith, ap, sym
 use Rattle.std.proofs.lemmas.Bool.{eqb-true}
 use Rattle.tx_recording.specs.Recordings.{ops_of}
 use Rattle.tx_verdict.specs.Forced.{AddsFirst}
-use Rattle.tx_verdict.proofs.Chaining.{within_first, within_next}
+use Rattle.tx_verdict.proofs.Chains.{within_first, within_next}
 use Rattle.tx_verdict.proofs.chain.is_within.Goals as goal
 
 pub returns-then-i-eq0 : goal.returns-then-i-eq0

@@ -7,7 +7,7 @@ use Rattle.tx_verdict.specs.declared.verdict.CycleStep.{CycleStep}
 use Rattle.tx_verdict.specs.Steps.{AreRound, Needs}
 use Rattle.tx_verdict.specs.Anomalies.{IsNamed}
 use Rattle.tx_verdict.proofs.Together.{refused_of}
-use Rattle.tx_verdict.proofs.Stepping.{depends_all}
+use Rattle.tx_verdict.proofs.CycleSteps.{depends_all}
 use Rattle.tx_verdict.proofs.evidence.cycle_of.Goals as goal
 
 pub steps_of-requires-clause-hold : goal.steps_of-requires-clause-hold

@@ -4,8 +4,8 @@ use Rattle.tx_recording.specs.Recordings.{no_op}
 use Rattle.tx_verdict.specs.declared.verdict.Fact.{Fact}
 use Rattle.tx_verdict.specs.declared.verdict.Rule.TheVariants.{Internal}
 use Rattle.tx_verdict.specs.Verdicts.{IsWrong}
-use Rattle.tx_clock.proofs.Ticking.{is_one}
-use Rattle.tx_verdict.proofs.Refuting.{fact_internal}
+use Rattle.tx_clock.proofs.ClockOrder.{is_one}
+use Rattle.tx_verdict.proofs.Refutations.{fact_internal}
 use Rattle.tx_verdict.proofs.facts.internal.Goals as goal
 
 pub ops_of-ops-requires-clause-within : goal.ops_of-ops-requires-clause-within

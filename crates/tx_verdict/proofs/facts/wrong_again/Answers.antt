@@ -1,7 +1,7 @@
 -- The two views differ.
 use Rattle.std.proofs.Common.{◌≡◌, sym, ◌∙◌}
 use Rattle.std.proofs.lemmas.Bool.{false≢true}
-use Rattle.tx_verdict.proofs.Refuting.{fact_unrepeatable}
+use Rattle.tx_verdict.proofs.Refutations.{fact_unrepeatable}
 use Rattle.tx_verdict.proofs.facts.wrong_again.Goals as goal
 
 pub returns : goal.returns

@@ -1,9 +1,9 @@
 -- Both saw the same, and put something there.
 use Rattle.std.proofs.Common.{◌≡◌, get_or}
 use Rattle.std.proofs.lemmas.List.Elements.{Contains-get_or}
-use Rattle.tx_views.proofs.Owning.{put_once}
+use Rattle.tx_views.proofs.ValueOwners.{put_once}
 use Rattle.tx_verdict.specs.Versions.{no_view}
-use Rattle.tx_verdict.proofs.Refuting.{fact_lost_update}
+use Rattle.tx_verdict.proofs.Refutations.{fact_lost_update}
 use Rattle.tx_verdict.proofs.facts.wrong_update.Goals as goal
 
 pub returns : goal.returns

@@ -2,7 +2,7 @@
 use Rattle.std.proofs.Common.{◌≡◌, ℕ, ◌<◌, length, get_or, arith}
 use Rattle.tx_recording.specs.Recordings.{no_op}
 use Rattle.tx_recording.specs.Explanations.{Puts}
-use Rattle.tx_views.proofs.Viewing.{below_next}
+use Rattle.tx_views.proofs.ReadViews.{below_next}
 use Rattle.tx_verdict.specs.Versions.{IsPlaced}
 use Rattle.tx_verdict.proofs.Small.{placed_all}
 use Rattle.tx_verdict.proofs.fit.are_ops_placed.Goals as goal

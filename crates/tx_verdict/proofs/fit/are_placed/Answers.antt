@@ -4,7 +4,7 @@ use Rattle.std.proofs.lemmas.Grind.{common_steps}
 use Rattle.std.proofs.lemmas.Bool.{false≢true}
 use Rattle.tx_recording.specs.Recordings.{txns_of}
 use Rattle.tx_recording.specs.Explanations.{IsPut, PutsIn}
-use Rattle.tx_views.proofs.Viewing.{below_next}
+use Rattle.tx_views.proofs.ReadViews.{below_next}
 use Rattle.tx_verdict.specs.Versions.{IsPlaced, live_of}
 use Rattle.tx_verdict.proofs.fit.are_placed.Goals as goal
 

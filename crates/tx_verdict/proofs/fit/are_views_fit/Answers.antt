@@ -1,7 +1,7 @@
 -- One view more.
 use Rattle.std.proofs.Common.{◌≡◌, ℕ, ◌<◌, length, get_or, arith}
 use Rattle.std.proofs.lemmas.List.Elements.{Contains-get_or}
-use Rattle.tx_views.proofs.Viewing.{below_next}
+use Rattle.tx_views.proofs.ReadViews.{below_next}
 use Rattle.tx_verdict.specs.Versions.{IsViewFit, no_view}
 use Rattle.tx_verdict.proofs.Small.{by_place}
 use Rattle.tx_verdict.proofs.fit.are_views_fit.Goals as goal

@@ -1,7 +1,7 @@
 -- One version more.
 use Rattle.std.proofs.Common.{◌≡◌, ℕ, ◌+◌, ◌<◌, length, arith, ap, subst, slice_index}
 use Rattle.tx_history.specs.Records.{writers_of}
-use Rattle.tx_views.proofs.Viewing.{below_next}
+use Rattle.tx_views.proofs.ReadViews.{below_next}
 use Rattle.tx_verdict.specs.Versions.{IsVersionFit}
 use Rattle.tx_verdict.proofs.fit.fits_key.Goals as goal
 

@@ -4,7 +4,7 @@ use Rattle.std.proofs.lemmas.Grind.{common_steps}
 use Rattle.std.proofs.lemmas.List.{get_or_read}
 use Rattle.std.proofs.lemmas.List.Elements.{Contains-get_or}
 use Rattle.tx_history.specs.declared.recorded.Read.{Read}
-use Rattle.tx_views.proofs.Viewing.{below_next}
+use Rattle.tx_views.proofs.ReadViews.{below_next}
 use Rattle.tx_verdict.specs.Versions.{no_view}
 use Rattle.tx_verdict.specs.Forced.{IsReadForced, no_read}
 use Rattle.tx_verdict.proofs.Small.{by_place}

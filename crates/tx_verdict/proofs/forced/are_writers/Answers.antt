@@ -2,7 +2,7 @@
 use Rattle.std.proofs.Common.{◌≡◌, ℕ, ◌<◌, length, arith, ap, sym, ◌∙◌, subst, slice_index}
 use Rattle.tx_recording.specs.Explanations.{IsWriter, PutsIn}
 use Rattle.tx_history.specs.Records.{writers_of}
-use Rattle.tx_views.proofs.Viewing.{below_next}
+use Rattle.tx_views.proofs.ReadViews.{below_next}
 use Rattle.tx_verdict.proofs.forced.are_writers.Goals as goal
 
 pub loop-i-preserved : goal.loop-i-preserved

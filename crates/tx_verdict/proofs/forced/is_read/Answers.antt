@@ -3,7 +3,7 @@ use Rattle.std.proofs.Common.{◌≡◌, ℕ, ◌-◌, length, arith, ap, sym, s
 use Rattle.std.proofs.lemmas.List.{get_or_read}
 use Rattle.std.proofs.lemmas.Grind.{common_steps}
 use Rattle.tx_verdict.specs.Forced.{key_of}
-use Rattle.tx_verdict.proofs.Chaining.{read_none, read_some}
+use Rattle.tx_verdict.proofs.Chains.{read_none, read_some}
 use Rattle.tx_verdict.proofs.forced.is_read.Goals as goal
 
 pub returns-then-version-eq0 : goal.returns-then-version-eq0

@@ -2,7 +2,7 @@
 use Rattle.std.proofs.Common.{◌≡◌, ◌<◌, length, get_or, arith, sym, subst}
 use Rattle.std.proofs.lemmas.List.Elements.{Contains-get_or}
 use Rattle.tx_verdict.specs.Versions.{no_view}
-use Rattle.tx_verdict.proofs.Seeing.{shown_by}
+use Rattle.tx_verdict.proofs.Views.{shown_by}
 use Rattle.tx_verdict.proofs.forced.is_shown.Goals as goal
 
 pub returns : goal.returns

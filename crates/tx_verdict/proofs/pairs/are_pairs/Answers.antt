@@ -3,7 +3,7 @@ use Rattle.std.proofs.Common.{◌≡◌, get_or, ◌<◌, length, arith, sym, su
 use Rattle.std.proofs.lemmas.Grind.{common_steps}
 use Rattle.std.proofs.lemmas.List.{get_or_read}
 use Rattle.tx_history.specs.declared.recorded.After.{After}
-use Rattle.tx_views.proofs.Viewing.{below_next}
+use Rattle.tx_views.proofs.ReadViews.{below_next}
 use Rattle.tx_verdict.specs.Pairs.{IsPair, no_pair}
 use Rattle.tx_verdict.proofs.Small.{by_place}
 use Rattle.tx_verdict.proofs.pairs.are_pairs.Goals as goal

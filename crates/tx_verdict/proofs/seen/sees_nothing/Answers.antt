@@ -1,7 +1,7 @@
 -- The view is empty.
 use Rattle.std.proofs.Common.{◌≡◌}
 use Rattle.std.proofs.lemmas.Bool.{eqb-true}
-use Rattle.tx_verdict.proofs.Seeing.{nothing_at}
+use Rattle.tx_verdict.proofs.Views.{nothing_at}
 use Rattle.tx_verdict.proofs.seen.sees_nothing.Goals as goal
 
 pub returns : goal.returns

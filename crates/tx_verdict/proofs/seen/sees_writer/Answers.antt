@@ -2,7 +2,7 @@
 use Rattle.std.proofs.Common.{◌≡◌, ◌-◌, length, get_or, arith, subst, sym}
 use Rattle.tx_recording.specs.Explanations.{Explanation, Explains, IsNewest}
 use Rattle.tx_recording.specs.declared.recording.Orders.{Orders}
-use Rattle.tx_verdict.proofs.Seeing.{newest_at}
+use Rattle.tx_verdict.proofs.Views.{newest_at}
 use Rattle.tx_verdict.proofs.seen.sees_writer.Goals as goal
 
 pub returns : goal.returns

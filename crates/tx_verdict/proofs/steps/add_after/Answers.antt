@@ -1,5 +1,5 @@
 -- One step more.
-use Rattle.tx_verdict.proofs.Stepping.{if_step, steps_more}
+use Rattle.tx_verdict.proofs.CycleSteps.{if_step, steps_more}
 use Rattle.tx_verdict.proofs.steps.add_after.Goals as goal
 
 pub returns : goal.returns

@@ -4,7 +4,7 @@ use Rattle.std.proofs.lemmas.Grind.{common_steps}
 use Rattle.std.proofs.lemmas.List.{get_or_read}
 use Rattle.tx_history.specs.Records.{history_of}
 use Rattle.tx_verdict.specs.Forced.{key_of}
-use Rattle.tx_verdict.proofs.Stepping.{step_on}
+use Rattle.tx_verdict.proofs.CycleSteps.{step_on}
 use Rattle.tx_verdict.proofs.steps.step_of.Goals as goal
 
 pub returns : goal.returns

@@ -1,7 +1,7 @@
 -- One transaction more.
 use Rattle.std.proofs.Common.{length, sym, ◌∙◌}
 use Rattle.tx_recording.specs.Recordings.{ops_of}
-use Rattle.tx_views.proofs.Owning.{all_more}
+use Rattle.tx_views.proofs.ValueOwners.{all_more}
 use Rattle.tx_views.proofs.owner.owners.Goals as goal
 
 pub loop-txn-preserved : goal.loop-txn-preserved

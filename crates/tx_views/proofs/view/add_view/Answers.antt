@@ -1,5 +1,5 @@
 -- One view more.
-use Rattle.tx_views.proofs.Viewing.{pushed}
+use Rattle.tx_views.proofs.ReadViews.{pushed}
 use Rattle.tx_views.proofs.view.add_view.Goals as goal
 
 pub returns-in_ok-push-in-Base-clause-only : goal.returns-in_ok-push-in-Base-clause-only

@@ -1,7 +1,7 @@
 -- One operation more.
 use Rattle.std.proofs.Common.{◌≡◌, ℕ, ◌<◌, length, subst, refl, sym, ap, arith}
 use Rattle.tx_views.specs.Views.{IsAnswered}
-use Rattle.tx_views.proofs.Viewing.{below_next, answered_more}
+use Rattle.tx_views.proofs.ReadViews.{below_next, answered_more}
 use Rattle.tx_views.proofs.view.add_views.Goals as goal
 
 pub returns-then-not-branch-clause-kept : goal.returns-then-not-branch-clause-kept

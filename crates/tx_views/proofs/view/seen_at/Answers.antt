@@ -2,7 +2,7 @@
 use Rattle.std.proofs.Common.{[], take, get_or}
 use Rattle.tx_recording.specs.Recordings.{no_op}
 use Rattle.tx_views.specs.Views.{IsSeen}
-use Rattle.tx_views.proofs.Viewing.{if_ok, seen_same}
+use Rattle.tx_views.proofs.ReadViews.{if_ok, seen_same}
 use Rattle.tx_views.proofs.view.seen_at.Goals as goal
 
 pub returns-then-place-reads : goal.returns-then-place-reads

@@ -1,6 +1,6 @@
 -- What is in front of the reader's own values.
 use Rattle.std.proofs.Common.{◌-◌, length, refl, drop}
-use Rattle.tx_views.proofs.Viewing.{base_so}
+use Rattle.tx_views.proofs.ReadViews.{base_so}
 use Rattle.tx_views.proofs.view.seen_behind.Goals as goal
 
 pub returns : goal.returns

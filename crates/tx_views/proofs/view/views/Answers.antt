@@ -4,7 +4,7 @@ use Rattle.std.proofs.lemmas.Grind.{common_steps}
 use Rattle.tx_recording.specs.declared.recording.Outcome.TheVariants.{Ok as Committed}
 use Rattle.tx_recording.specs.Recordings.{ops_of, transaction_at, txns_of}
 use Rattle.tx_views.specs.Views.{IsAnswered}
-use Rattle.tx_views.proofs.Viewing.{below_next, answered_more, none_at, not_ok}
+use Rattle.tx_views.proofs.ReadViews.{below_next, answered_more, none_at, not_ok}
 use Rattle.tx_views.proofs.view.views.Goals as goal
 
 pub loop-txn-preserved-then-not-is_ok : goal.loop-txn-preserved-then-not-is_ok

@@ -1,4 +1,4 @@
-use Rattle.tx_client.proofs.Calling.{asked_seated}
+use Rattle.tx_client.proofs.Calls.{asked_seated}
 use Rattle.tx_client.proofs.session.Session.ask.Goals as goal
 
 pub invariant_of-self : goal.invariant_of-self

@@ -5,7 +5,7 @@ use Rattle.tx_journal.proofs.Calls.{may_begin_there}
 use Rattle.tx_transaction.specs.Sessions.{SessionState}
 use Rattle.tx_client.specs.Facts.{IsSeated}
 use Rattle.tx_client.specs.Order.{IsDrawnAfter}
-use Rattle.tx_client.proofs.Calling.{began_seated}
+use Rattle.tx_client.proofs.Calls.{began_seated}
 use Rattle.tx_client.proofs.Ordered.{began_drawn_after}
 use Rattle.tx_client.proofs.session.Session.begin.Goals as goal
 

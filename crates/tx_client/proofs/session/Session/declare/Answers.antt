@@ -4,7 +4,7 @@ use Rattle.tx_transaction.specs.Sessions.{SessionState, is_declared, declaration
 use Rattle.tx_client.specs.Facts.{IsSeated}
 use Rattle.tx_client.specs.Calls.{Seated}
 use Rattle.tx_client.specs.Order.{IsDrawnAfter}
-use Rattle.tx_client.proofs.Calling.{may_declare_some, declared_seated}
+use Rattle.tx_client.proofs.Calls.{may_declare_some, declared_seated}
 use Rattle.tx_client.proofs.Ordered.{declared_after}
 use Rattle.tx_client.proofs.session.Session.declare.Goals as goal
 

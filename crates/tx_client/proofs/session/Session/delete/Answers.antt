@@ -4,7 +4,7 @@ use Rattle.tx_transaction.specs.Sessions.{SessionState, is_declared}
 use Rattle.tx_client.specs.Facts.{IsSeated}
 use Rattle.tx_client.specs.Calls.{Seated}
 use Rattle.tx_client.proofs.Events.{touched_ok}
-use Rattle.tx_client.proofs.Calling.{either}
+use Rattle.tx_client.proofs.Calls.{either}
 use Rattle.tx_client.proofs.session.Session.delete.Goals as goal
 
 pub invariant_of-self : goal.invariant_of-self

@@ -2,7 +2,7 @@ use Rattle.std.proofs.Common.{◌≡◌, true, sym, subst}
 use Rattle.tx_transaction.specs.Sessions.{SessionState, can_draw}
 use Rattle.tx_client.specs.Facts.{IsSeated}
 use Rattle.tx_client.specs.Calls.{Seated}
-use Rattle.tx_client.proofs.Calling.{drew_seated}
+use Rattle.tx_client.proofs.Calls.{drew_seated}
 use Rattle.tx_client.proofs.session.Session.draw_commit.Goals as goal
 
 pub invariant_of-self-2 : goal.invariant_of-self-2

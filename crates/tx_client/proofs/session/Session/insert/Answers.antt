@@ -1,7 +1,7 @@
 use Rattle.std.proofs.Common.{◌≡◌, false, sym, subst}
 use Rattle.tx_transaction.specs.Sessions.{is_declared}
 use Rattle.tx_client.specs.Calls.{Seated}
-use Rattle.tx_client.proofs.Calling.{inserted_seated}
+use Rattle.tx_client.proofs.Calls.{inserted_seated}
 use Rattle.tx_client.proofs.session.Session.insert.Goals as goal
 
 pub invariant_of-self : goal.invariant_of-self

@@ -3,7 +3,7 @@ use Rattle.tx_core.specs.Histories.{History, Begins}
 use Rattle.tx_transaction.specs.Sessions.{SessionState, with_passed}
 use Rattle.tx_client.specs.Statuses.{lies_above}
 use Rattle.tx_client.specs.Facts.{IsSeated}
-use Rattle.tx_client.proofs.Calling.{passed_seated}
+use Rattle.tx_client.proofs.Calls.{passed_seated}
 use Rattle.tx_client.proofs.session.Session.learn.Goals as goal
 
 pub invariant_of-self : goal.invariant_of-self

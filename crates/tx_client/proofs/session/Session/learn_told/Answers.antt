@@ -1,4 +1,4 @@
-use Rattle.tx_client.proofs.Calling.{seen_seated}
+use Rattle.tx_client.proofs.Calls.{seen_seated}
 use Rattle.tx_client.proofs.session.Session.learn_told.Goals as goal
 
 pub invariant_of-self : goal.invariant_of-self

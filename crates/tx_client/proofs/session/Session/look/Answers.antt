@@ -3,8 +3,8 @@ use Rattle.tx_plan.specs.declared.answer.Answer.{Answer}
 use Rattle.tx_transaction.specs.Sessions.{SessionState, after_read}
 use Rattle.tx_client.specs.Facts.{WasAnswered, IsSeated}
 use Rattle.tx_client.specs.Calls.{Seated, Asks}
-use Rattle.tx_client.proofs.Answering.{read_ok}
-use Rattle.tx_client.proofs.Looking.{looked}
+use Rattle.tx_client.proofs.Replies.{read_ok}
+use Rattle.tx_client.proofs.Sends.{looked}
 use Rattle.tx_client.proofs.Rooms.{told_upto}
 use Rattle.tx_client.proofs.session.Session.look.Goals as goal
 

@@ -1,7 +1,7 @@
 use Rattle.std.proofs.Common.{List, ap, inr, ◌∙◌}
 use Rattle.tx_types.specs.declared.mutation.KeyValue.{KeyValue}
 use Rattle.tx_client.specs.Walks.{part_by}
-use Rattle.tx_client.proofs.Scanning.{part_looked}
+use Rattle.tx_client.proofs.Scans.{part_looked}
 use Rattle.tx_client.proofs.session.Session.look_part.Goals as goal
 
 pub returns : goal.returns

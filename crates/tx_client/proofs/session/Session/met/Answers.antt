@@ -6,4 +6,5 @@ use Rattle.tx_client.proofs.session.Session.met.Goals as goal
 pub new-requires : goal.new-requires
 new-requires g c =
     let info = c.in-Some.info in
-    subst (λ (h : History). WasMet h info) (sym c.tell-told.ensures.told) (c.self.invariant.1.met info (sym c.in_ok-info.ensures.ok ∙ c.in-Some.is))
+    subst (λ (h : History). WasMet h info) (sym c.tell-told.ensures.told)
+    (c.self.invariant.1.met info (sym c.in_ok-info.ensures.ok ∙ c.in-Some.is))

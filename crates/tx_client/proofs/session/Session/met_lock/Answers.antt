@@ -22,4 +22,5 @@ pub returns-clause-told : goal.returns-clause-told
 returns-clause-told g c =
     let h = c.self.inside.seat.events in
     subst (λ (z : Seated). IfSome z.state.met (λ info. WasToldOf z.seat.events info)) c.self.view_is
-    (some_is (WasToldOf h) c.self.inside.transaction.met (λ info e. met_was_told h info (c.self.invariant.1.met info e)))
+    (some_is (WasToldOf h) c.self.inside.transaction.met
+    (λ info e. met_was_told h info (c.self.invariant.1.met info e)))

@@ -3,8 +3,8 @@ use Rattle.tx_plan.specs.declared.answer.Answer.{Answer}
 use Rattle.tx_transaction.specs.Sessions.{SessionState}
 use Rattle.tx_client.specs.Facts.{WasAnswered, IsFor, IsSeated}
 use Rattle.tx_client.specs.Calls.{Seated}
-use Rattle.tx_client.proofs.Answering.{heard_ok, missed_ok}
-use Rattle.tx_client.proofs.Calling.{held_for}
+use Rattle.tx_client.proofs.Replies.{heard_ok, missed_ok}
+use Rattle.tx_client.proofs.Calls.{held_for}
 use Rattle.tx_client.proofs.session.Session.pursue.Goals as goal
 
 pub ask-requires-clause-held : goal.ask-requires-clause-held

@@ -1,7 +1,7 @@
 use Rattle.std.proofs.Common.{sym, subst}
 use Rattle.tx_plan.specs.declared.body.Body.{Body}
 use Rattle.tx_journal.specs.Senders.{IsHeld}
-use Rattle.tx_client.proofs.Calling.{held_at}
+use Rattle.tx_client.proofs.Calls.{held_at}
 use Rattle.tx_client.proofs.session.Session.read.Goals as goal
 
 pub look-requires-clause-held : goal.look-requires-clause-held

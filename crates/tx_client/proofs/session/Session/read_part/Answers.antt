@@ -4,8 +4,8 @@ use Rattle.tx_types.specs.Keys.{AreRising}
 use Rattle.tx_journal.specs.Senders.{IsHeld}
 use Rattle.tx_client.specs.Rooms.{IsScan}
 use Rattle.tx_client.specs.Walks.{part_of, greater, low_of, high_of}
-use Rattle.tx_client.proofs.Routing.{held_part}
-use Rattle.tx_client.proofs.Scanning.{part_body, part_short, part_some}
+use Rattle.tx_client.proofs.Routes.{held_part}
+use Rattle.tx_client.proofs.Scans.{part_body, part_short, part_some}
 use Rattle.tx_client.proofs.session.Session.read_part.Goals as goal
 
 pub look_part-requires-clause-held : goal.look_part-requires-clause-held

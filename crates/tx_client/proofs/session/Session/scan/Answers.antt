@@ -1,7 +1,7 @@
 use Rattle.std.proofs.Common.{◌≤◌, ◌<◌, ◌∙◌, List, length, ap, arith}
 use Rattle.tx_types.specs.declared.key.Key.{Key}
 use Rattle.tx_client.specs.Walks.{scan_walk}
-use Rattle.tx_client.proofs.Scanning.{more_read, done_read, all_read}
+use Rattle.tx_client.proofs.Scans.{more_read, done_read, all_read}
 use Rattle.tx_client.proofs.session.Session.scan.Goals as goal
 
 pub returns-in-Done : goal.returns-in-Done

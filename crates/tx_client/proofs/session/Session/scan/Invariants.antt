@@ -1,5 +1,5 @@
 use Rattle.tx_client.specs.Walks.{Continues, scan_walk}
-use Rattle.tx_client.proofs.Scanning.{scan_left}
+use Rattle.tx_client.proofs.Scans.{scan_left}
 use Rattle.tx_client.proofs.session.Session.scan.Given as goal
 
 -- what is left of the scan

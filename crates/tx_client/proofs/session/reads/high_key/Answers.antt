@@ -2,7 +2,7 @@ use Rattle.std.proofs.Common.{◌≡◌, ◌<◌, ◌≤◌, ◌∙◌, length, 
 use Rattle.std.specs.Prelude.{IfOk}
 use Rattle.tx_types.specs.declared.key.Key.{Key}
 use Rattle.tx_client.specs.Walks.{lesser}
-use Rattle.tx_client.proofs.Routing.{high_there, high_past}
+use Rattle.tx_client.proofs.Routes.{high_there, high_past}
 use Rattle.tx_client.proofs.session.reads.high_key.Goals as goal
 
 pub returns-then-n-bounds-clause-ok : goal.returns-then-n-bounds-clause-ok

@@ -2,7 +2,7 @@ use Rattle.std.proofs.Common.{◌≡◌, ◌<◌, ◌∙◌, subst, arith}
 use Rattle.std.specs.Prelude.{IfOk}
 use Rattle.tx_types.specs.declared.key.Key.{Key}
 use Rattle.tx_client.specs.Walks.{greater}
-use Rattle.tx_client.proofs.Routing.{low_there}
+use Rattle.tx_client.proofs.Routes.{low_there}
 use Rattle.tx_client.proofs.session.reads.low_key.Goals as goal
 
 pub returns-clause-ok : goal.returns-clause-ok

@@ -8,7 +8,7 @@ use Rattle.tx_engine.specs.Semantics.{first_free}
 use Rattle.tx_types.specs.Names.{is_name}
 use Rattle.tx_steps.specs.declared.step.Step.TheVariants as step
 use Rattle.tx_engine.specs.Slots.{slot_of, Held, texts, name_at, AllSeated, Goes, Turned}
-use Rattle.tx_engine.proofs.Keeping.{at_place_of}
+use Rattle.tx_engine.proofs.SlotCounts.{at_place_of}
 use Rattle.tx_engine.proofs.Engines.{on_ok, on_err, named, renamed, step_begun, step_refused, step_stops, begin_unnamed, begin_taken, begin_full}
 use Rattle.tx_engine.proofs.engine.Engine.begin.Goals as goal
 

@@ -1,7 +1,7 @@
 use Rattle.std.proofs.Common.{refl, subst}
 use Rattle.tx_steps.specs.declared.step.Step.TheVariants as step
 use Rattle.tx_engine.specs.Slots.{Held, texts, Goes, Turned}
-use Rattle.tx_engine.proofs.Delivering.{step_delivered}
+use Rattle.tx_engine.proofs.Deliveries.{step_delivered}
 use Rattle.tx_engine.proofs.engine.Engine.deliver.Goals as goal
 
 pub returns : goal.returns

@@ -6,9 +6,9 @@ use Rattle.tx_engine.specs.declared.slots.SessionSlot.TheVariants.{Live}
 use Rattle.tx_steps.specs.Steps.{called, delivered}
 use Rattle.tx_engine.specs.Semantics.{live_at, sends}
 use Rattle.tx_engine.specs.Slots.{Held, SlotContent, texts, name_at, engine_state, AllSeated, Goes, TurnedBy}
-use Rattle.tx_engine.proofs.Keeping.{at_place_of}
+use Rattle.tx_engine.proofs.SlotCounts.{at_place_of}
 use Rattle.tx_engine.proofs.Engines.{named, no_name, no_place, in_name, act_stops, step_in, turn_stops}
-use Rattle.tx_engine.proofs.Doing.{SessionTurn}
+use Rattle.tx_engine.proofs.SessionTurns.{SessionTurn}
 use Rattle.tx_engine.proofs.engine.Engine.send.Goals as goal
 
 pub returns-in_default : goal.returns-in_default

@@ -3,7 +3,7 @@ use Rattle.tx_core.specs.Histories.{Begins}
 use Rattle.tx_journal.specs.Known.{Known}
 use Rattle.tx_network.specs.Networks.{NetworkParts, IsDone, AreNumbered}
 use Rattle.tx_engine.specs.Slots.{Held, SlotContent, seat_in, Done}
-use Rattle.tx_network.proofs.Learning.{done_learnt, done_popped}
+use Rattle.tx_network.proofs.SettledSeats.{done_learnt, done_popped}
 use Rattle.tx_engine.proofs.engine.Engine.settle.Goals as goal
 
 pub slots-preserved-in-Free : goal.slots-preserved-in-Free

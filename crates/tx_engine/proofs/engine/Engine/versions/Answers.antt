@@ -1,7 +1,7 @@
 use Rattle.std.proofs.Common.{Ok, refl, subst}
 use Rattle.tx_steps.specs.declared.step.Step.TheVariants as step
 use Rattle.tx_engine.specs.Slots.{Held, texts, Goes, Turned}
-use Rattle.tx_engine.proofs.Inspecting.{step_inspected}
+use Rattle.tx_engine.proofs.Inspections.{step_inspected}
 use Rattle.tx_engine.proofs.engine.Engine.versions.Goals as goal
 
 pub returns : goal.returns

@@ -2,7 +2,7 @@ use Rattle.std.proofs.Common.{ap}
 use Rattle.tx_client.specs.Learns.{response_by}
 use Rattle.tx_ops.specs.Calls.{read_reply}
 use Rattle.tx_reply.specs.declared.reply.ScriptReply.TheVariants as reply
-use Rattle.tx_engine.proofs.Delivering.{not_held, handed}
+use Rattle.tx_engine.proofs.Deliveries.{not_held, handed}
 use Rattle.tx_engine.proofs.operations.delivery.deliver.Goals as goal
 
 pub returns-in-None : goal.returns-in-None

@@ -1,7 +1,7 @@
 use Rattle.std.proofs.Common.{ℕ, List, ◌∙◌, sym, subst}
 use Rattle.tx_core.specs.Worlds.{route}
 use Rattle.tx_network.specs.Networks.{Displays}
-use Rattle.tx_engine.proofs.Inspecting.{inspect_unkeyed, inspect_short, inspect_refused, inspect_shown}
+use Rattle.tx_engine.proofs.Inspections.{inspect_unkeyed, inspect_short, inspect_refused, inspect_shown}
 use Rattle.tx_engine.proofs.operations.versions.versions.Goals as goal
 
 pub returns-then-not-is_key : goal.returns-then-not-is_key

@@ -8,7 +8,7 @@ use Rattle.tx_spelling.specs.Spelt.{version_cmp}
 use Rattle.tx_flat.specs.Flats.{flat_content}
 use Rattle.tx_cells.proofs.Copied.{copied}
 use Rattle.tx_cells.proofs.Facts.{fitting, whole_at}
-use Rattle.tx_cells.proofs.Falling.{starts_fit}
+use Rattle.tx_cells.proofs.NewestFirst.{starts_fit}
 use Rattle.tx_flat.proofs.sees.FlatCellsSees.cells.Goals as goal
 
 pub records_down-requires : goal.records_down-requires

@@ -8,7 +8,7 @@ use Rattle.tx_flat.specs.Flats.{flat_content}
 use Rattle.tx_spelling.specs.Spelt.{version_cmp}
 use Rattle.tx_cells.proofs.Facts.{whole_at}
 use Rattle.tx_cells.proofs.RecordKinds.{kind_is, apart_is}
-use Rattle.tx_flat.proofs.Sieving.{AreLeft, Goes, keeps_at, says, knows_on, left_rest, left_all, knows_none, first_is}
+use Rattle.tx_flat.proofs.Sieves.{AreLeft, Goes, keeps_at, says, knows_on, left_rest, left_all, knows_none, first_is}
 use Rattle.tx_flat.proofs.SieveCounts.{Counted, count_starts, count_stays, count_long, count_short, count_ends}
 use Rattle.tx_flat.proofs.sees.FlatCellsSees.count_below.Goals as goal
 

@@ -5,7 +5,7 @@ use Rattle.std.specs.Ordering.{nat_cmp}
 use Rattle.std.specs.Cmp.Lexicographic.{slice_cmp}
 use Rattle.tx_cells.specs.Contents.{lock_of}
 use Rattle.tx_spelling.specs.Spelt.{version_cmp}
-use Rattle.tx_flat.proofs.Sieving.{Place, AreLeft, Knows}
+use Rattle.tx_flat.proofs.Sieves.{Place, AreLeft, Knows}
 use Rattle.tx_flat.proofs.SieveCounts.{Counted}
 use Rattle.tx_flat.proofs.sees.FlatCellsSees.count_below.Given as goal
 

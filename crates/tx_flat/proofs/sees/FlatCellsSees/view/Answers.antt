@@ -8,7 +8,7 @@ use Rattle.tx_cells.specs.Contents.{cells_of}
 use Rattle.tx_cells.specs.Heads.{lock_head}
 use Rattle.tx_flat.specs.Flats.{flat_content}
 use Rattle.tx_cells.proofs.Facts.{dated, whole_at}
-use Rattle.tx_cells.proofs.Showing.{shown_past}
+use Rattle.tx_cells.proofs.RecordCells.{shown_past}
 use Rattle.tx_flat.proofs.sees.FlatCellsSees.view.Goals as goal
 
 pub returns-then-past-clause-shows : goal.returns-then-past-clause-shows

@@ -1,7 +1,7 @@
 use Rattle.std.proofs.Common.{◌≡◌, Some, None, sym, subst}
 use Rattle.tx_flat.specs.Positions.{Locks, coming, IsPosition, Passes}
 use Rattle.tx_flat.proofs.Positions.{coming_is}
-use Rattle.tx_flat.proofs.Passing.{locked_place, locked_passes}
+use Rattle.tx_flat.proofs.PassedKeys.{locked_place, locked_passes}
 use Rattle.tx_flat.proofs.walks.FlatReads.pass_locked.Goals as goal
 
 pub invariant_of-self : goal.invariant_of-self

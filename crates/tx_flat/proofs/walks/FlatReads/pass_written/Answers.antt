@@ -6,7 +6,7 @@ use Rattle.tx_plan.specs.Reads.{Reads}
 use Rattle.tx_cells.specs.Contents.{cells_of}
 use Rattle.tx_flat.specs.Flats.{flat_content}
 use Rattle.tx_flat.specs.Positions.{coming, locks_where, writes_where}
-use Rattle.tx_flat.proofs.Passing.{place_behind, next_behind, locks_passed, head_is, written_stands, written_newest}
+use Rattle.tx_flat.proofs.PassedKeys.{place_behind, next_behind, locks_passed, head_is, written_stands, written_newest}
 use Rattle.tx_flat.proofs.walks.FlatReads.pass_written.Goals as goal
 
 pub value_by-requires-clause-stands : goal.value_by-requires-clause-stands

@@ -7,7 +7,7 @@ use Rattle.tx_cells.specs.Contents.{cells_in}
 use Rattle.tx_flat.specs.Flats.{flat_content, fronts_of, rows_from}
 use Rattle.tx_flat.specs.Positions.{Locks, WriteEntries, coming, first_of, next_key, comes_before, IsPosition}
 use Rattle.tx_flat.proofs.HeldKeys.{rows_step}
-use Rattle.tx_flat.proofs.Passing.{lock_first, write_first, front_coming, ended}
+use Rattle.tx_flat.proofs.PassedKeys.{lock_first, write_first, front_coming, ended}
 use Rattle.tx_flat.proofs.walks.FlatReadsReadWalk.next.Goals as goal
 use Rattle.tx_flat.proofs.walks.FlatReadsReadWalk.next.Goals.{in-Some+else-comes_first, in_default}
 

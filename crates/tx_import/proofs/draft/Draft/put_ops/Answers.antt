@@ -1,5 +1,5 @@
 use Rattle.std.proofs.Common.{◌∙◌, ◌+◌, arith}
-use Rattle.tx_import.proofs.Growing.{draft_then, ops_more}
+use Rattle.tx_import.proofs.Extensions.{draft_then, ops_more}
 use Rattle.tx_import.proofs.Weights.{weight_more, weight_part}
 use Rattle.tx_import.proofs.draft.Draft.put_ops.Goals as goal
 

@@ -1,6 +1,6 @@
 use Rattle.std.proofs.Common.{◌≡◌, subst, rules}
-use Rattle.tx_kv.specs.Clients.{ClientState, Updates, seats_of}
-use Rattle.tx_kv.proofs.Telling.{seen_goes, updates_so}
+use Rattle.tx_kv.specs.Clients.{Updates, seats_of}
+use Rattle.tx_kv.proofs.UpdateResults.{seen_goes, updates_so}
 use Rattle.tx_kv.proofs.client.Client.update.Goals as goal
 
 pub returns : goal.returns

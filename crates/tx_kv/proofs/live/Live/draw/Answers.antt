@@ -1,4 +1,4 @@
-use Rattle.tx_kv.proofs.Drawing.{if_drawn_then}
+use Rattle.tx_kv.proofs.Draws.{if_drawn_then}
 use Rattle.tx_kv.proofs.live.Live.draw.Goals as goal
 
 pub returns : goal.returns

@@ -1,4 +1,4 @@
-use Rattle.tx_reader.proofs.Seeing.{sees_itself}
+use Rattle.tx_reader.proofs.Observers.{sees_itself}
 use Rattle.tx_kv.proofs.view.View.range.Goals as goal
 
 pub returns-in_err-range-clause-resolves : goal.returns-in_err-range-clause-resolves

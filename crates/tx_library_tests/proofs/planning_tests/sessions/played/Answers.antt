@@ -8,8 +8,8 @@ first_is [] d x e = absurd (cc (e))
 first_is (y ∷ ys) d x e = cc (e)
 
 -- the first seat is that of the first region
-pub new-requires-clause-seat : goal.new-requires-clause-seat
-new-requires-clause-seat g c =
+pub new-requires-2-clause-seat : goal.new-requires-2-clause-seat
+new-requires-2-clause-seat g c =
     let first = c.in-Ok.ensures.seats 0 (omega (arith, c.requires.six)) in
     let same = c.swap_remove-of.ensures.value ∙ first_is c.in-Ok.seats.items c.swap_remove-of.result _ first in
     (ap (λ k. k.events) same, omega (arith, ap (λ k. k.seat) same))

@@ -3,7 +3,7 @@ use Rattle.std.specs.Prelude.{Contains}
 use Rattle.tx_nested.specs.Nested.{held}
 use Rattle.tx_cells.specs.Copies.{AreFalling}
 use Rattle.tx_cells.proofs.Copied.{copied}
-use Rattle.tx_cells.proofs.Copying.{starts_fall, starts_shown, starts_all}
+use Rattle.tx_cells.proofs.EntryOrder.{starts_fall, starts_shown, starts_all}
 use Rattle.tx_cells.proofs.Facts.{fitting}
 use Rattle.tx_nested.proofs.key.KeyFamilies.copy.Goals as goal
 

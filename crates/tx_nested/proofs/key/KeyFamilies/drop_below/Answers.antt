@@ -9,8 +9,8 @@ use Rattle.tx_nested.specs.Nested.{held}
 use Rattle.tx_cells.proofs.Facts.{stays_whole}
 use Rattle.tx_cells.proofs.Maps.{same_maps}
 use Rattle.tx_nested.proofs.NestedMaps.{on_key}
-use Rattle.tx_cells.proofs.Dropping.{Left, whole_left, collected_left, cells_left, stays_of}
-use Rattle.tx_nested.proofs.Going.{tells_left}
+use Rattle.tx_cells.proofs.Drops.{Left, whole_left, collected_left, cells_left, stays_of}
+use Rattle.tx_nested.proofs.Drops.{tells_left}
 use Rattle.tx_nested.proofs.key.KeyFamilies.drop_below.Goals as goal
 
 pub invariant_of-self : goal.invariant_of-self

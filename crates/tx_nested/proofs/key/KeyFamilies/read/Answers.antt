@@ -1,6 +1,6 @@
 use Rattle.std.proofs.Common.{◌∙◌}
 use Rattle.tx_nested.specs.Nested.{held}
-use Rattle.tx_cells.proofs.Showing.{lock_heads}
+use Rattle.tx_cells.proofs.RecordCells.{lock_heads}
 use Rattle.tx_nested.proofs.key.KeyFamilies.read.Goals as goal
 
 pub returns-clause-shows : goal.returns-clause-shows

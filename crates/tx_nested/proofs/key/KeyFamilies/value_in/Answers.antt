@@ -6,7 +6,7 @@ use Rattle.tx_cells.specs.Contents.{cells_of}
 use Rattle.tx_cells.specs.Heads.{write_inline, write_keeps_apart}
 use Rattle.tx_nested.specs.Nested.{held}
 use Rattle.tx_cells.proofs.Facts.{write_kept, if_ok}
-use Rattle.tx_cells.proofs.Reading.{inline_found, apart_found}
+use Rattle.tx_cells.proofs.NewestValue.{inline_found, apart_found}
 use Rattle.tx_nested.proofs.key.KeyFamilies.value_in.Goals as goal
 
 pub returns-then-not-keeps_value_apart-clause-value : goal.returns-then-not-keeps_value_apart-clause-value

@@ -1,6 +1,6 @@
 use Rattle.tx_nested.specs.Nested.{held}
 use Rattle.tx_cells.proofs.Facts.{dated}
-use Rattle.tx_cells.proofs.Showing.{shown_past}
+use Rattle.tx_cells.proofs.RecordCells.{shown_past}
 use Rattle.tx_nested.proofs.key.KeyFamilies.view.Goals as goal
 
 pub returns-then-is_past : goal.returns-then-is_past

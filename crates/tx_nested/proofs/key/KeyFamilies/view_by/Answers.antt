@@ -1,6 +1,6 @@
 use Rattle.tx_nested.specs.Nested.{held}
 use Rattle.tx_cells.proofs.Facts.{dated, fitting}
-use Rattle.tx_cells.proofs.Showing.{shown}
+use Rattle.tx_cells.proofs.RecordCells.{shown}
 use Rattle.tx_nested.proofs.key.KeyFamilies.view_by.Goals as goal
 
 pub commits_above-own_commit-requires-clause-dated : goal.commits_above-own_commit-requires-clause-dated

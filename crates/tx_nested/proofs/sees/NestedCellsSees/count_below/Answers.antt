@@ -1,6 +1,6 @@
 use Rattle.std.proofs.Common.{◌+◌, ◌∷◌, length, sym, ap, subst, ◌∙◌}
 use Rattle.tx_plan.specs.Walks.{KeyRow}
-use Rattle.tx_plan.proofs.Counting.{DroppedTo, drop_starts, drop_more}
+use Rattle.tx_plan.proofs.DropCounts.{DroppedTo, drop_starts, drop_more}
 use Rattle.tx_cells.specs.Contents.{cells_in, cells_of}
 use Rattle.tx_nested.specs.Nested.{held, nested_content, key_rows}
 use Rattle.tx_nested.proofs.NestedRows.{whole_walk}

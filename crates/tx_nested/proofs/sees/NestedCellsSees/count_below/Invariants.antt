@@ -1,5 +1,5 @@
 use Rattle.std.proofs.Common.{length}
-use Rattle.tx_plan.proofs.Counting.{DroppedTo}
+use Rattle.tx_plan.proofs.DropCounts.{DroppedTo}
 use Rattle.tx_cells.specs.Contents.{cells_in}
 use Rattle.tx_nested.specs.Nested.{nested_content, key_rows}
 use Rattle.tx_nested.proofs.sees.NestedCellsSees.count_below.Given as goal

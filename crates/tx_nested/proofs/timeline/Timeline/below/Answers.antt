@@ -1,7 +1,7 @@
 -- The entry before the index of the bound is the last below it.
 use Rattle.std.proofs.Common.{ap}
 use Rattle.std.specs.Prelude.{is_some}
-use Rattle.tx_nested.proofs.Finding.{before_found, before_newest, none_below}
+use Rattle.tx_nested.proofs.Lookups.{before_found, before_newest, none_below}
 use Rattle.tx_nested.proofs.timeline.Timeline.below.Goals as goal
 
 pub returns-in-Some-clause-found : goal.returns-in-Some-clause-found

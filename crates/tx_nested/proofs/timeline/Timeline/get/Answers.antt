@@ -1,6 +1,6 @@
 -- The index of a timestamp holds what is found at it.
 use Rattle.std.proofs.Common.{◌∙◌}
-use Rattle.tx_nested.proofs.Finding.{held_is}
+use Rattle.tx_nested.proofs.Lookups.{held_is}
 use Rattle.tx_nested.proofs.timeline.Timeline.get.Goals as goal
 
 pub returns : goal.returns

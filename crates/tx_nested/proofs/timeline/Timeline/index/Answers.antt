@@ -4,7 +4,7 @@ use Rattle.std.specs.BTreeMap.{BTreeMap}
 use Rattle.std.specs.Ordering.{nat_cmp, is_lt}
 use Rattle.std.proofs.lemmas.Bool.{eqb-true}
 use Rattle.std.proofs.lemmas.List.Sorted.{IsPartitionPoint-from_clause}
-use Rattle.tx_nested.proofs.Rising.{Rises, lt_from_is_lt, place_past, place_last, parted, place_split, carried}
+use Rattle.tx_nested.proofs.EntryOrder.{Rises, lt_from_is_lt, place_past, place_last, parted, place_split, carried}
 use Rattle.tx_nested.proofs.timeline.Timeline.index.Goals as goal
 
 pub returns-then-lt-clause-index : goal.returns-then-lt-clause-index

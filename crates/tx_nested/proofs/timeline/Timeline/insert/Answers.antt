@@ -4,9 +4,9 @@ use Rattle.std.specs.BTreeMap.{BTreeMap}
 use Rattle.std.specs.List.{insert}
 use Rattle.std.proofs.lemmas.List.Edits.{insert_end}
 use Rattle.std.specs.Ordering.{nat_cmp, is_eq}
-use Rattle.tx_nested.proofs.Rising.{Rises, held_in, other_in, carried}
-use Rattle.tx_nested.proofs.Finding.{find, none_at, on_err}
-use Rattle.tx_nested.proofs.Changing.{rises_set, find_set, rises_insert, find_insert}
+use Rattle.tx_nested.proofs.EntryOrder.{Rises, held_in, other_in, carried}
+use Rattle.tx_nested.proofs.Lookups.{find, none_at, on_err}
+use Rattle.tx_nested.proofs.EntryChanges.{rises_set, find_set, rises_insert, find_insert}
 use Rattle.tx_nested.proofs.timeline.Timeline.insert.Goals as goal
 
 pub invariant_of-self : goal.invariant_of-self

@@ -3,9 +3,9 @@ use Rattle.std.proofs.Common.{ℕ, not, cond, Option, None, sym, ap, subst, ◌�
 use Rattle.std.specs.BTreeMap.{BTreeMap}
 use Rattle.std.proofs.lemmas.Fn.{filter_same}
 use Rattle.tx_nested.specs.Indexes.{goes_below}
-use Rattle.tx_nested.proofs.Rising.{Rises}
-use Rattle.tx_nested.proofs.Finding.{find}
-use Rattle.tx_nested.proofs.Changing.{rises_kept, find_kept}
+use Rattle.tx_nested.proofs.EntryOrder.{Rises}
+use Rattle.tx_nested.proofs.Lookups.{find}
+use Rattle.tx_nested.proofs.EntryChanges.{rises_kept, find_kept}
 use Rattle.tx_nested.proofs.timeline.Timeline.keep_above.Goals as goal
 
 pub invariant_of-self : goal.invariant_of-self

@@ -2,8 +2,8 @@
 use Rattle.std.proofs.Common.{ℕ, ◌-◌, List, length, slice_get, sym, ap, subst, ◌∙◌}
 use Rattle.std.specs.BTreeMap.{BTreeMap}
 use Rattle.std.specs.Option.{option_copied}
-use Rattle.tx_nested.proofs.Rising.{Rises}
-use Rattle.tx_nested.proofs.Finding.{found_here, last_newest}
+use Rattle.tx_nested.proofs.EntryOrder.{Rises}
+use Rattle.tx_nested.proofs.Lookups.{found_here, last_newest}
 use Rattle.tx_nested.proofs.timeline.Timeline.last.Goals as goal
 
 pub returns-clause-found : goal.returns-clause-found

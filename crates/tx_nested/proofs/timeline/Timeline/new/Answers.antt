@@ -1,7 +1,7 @@
 -- No entries rise.
 use Rattle.std.proofs.Common.{[], sym, subst}
 use Rattle.std.specs.List.Sorted.{IsStrictlySortedBy}
-use Rattle.tx_nested.proofs.Rising.{Rises}
+use Rattle.tx_nested.proofs.EntryOrder.{Rises}
 use Rattle.tx_nested.proofs.timeline.Timeline.new.Goals as goal
 
 none_rise : (X : Type 0) → Rises {X = X} []

@@ -1,8 +1,8 @@
 -- The entry in the index of the bound is at it, or the one before the index is the last.
 use Rattle.std.proofs.Common.{arith, sym, ◌∙◌}
 use Rattle.std.specs.Prelude.{slice_get}
-use Rattle.tx_nested.proofs.Rising.{is_other}
-use Rattle.tx_nested.proofs.Finding.{held_is, before_found, before_nearest, none_upto, some_map, none_map}
+use Rattle.tx_nested.proofs.EntryOrder.{is_other}
+use Rattle.tx_nested.proofs.Lookups.{held_is, before_found, before_nearest, none_upto, some_map, none_map}
 use Rattle.tx_nested.proofs.timeline.Timeline.upto.Goals as goal
 
 pub returns-in-Some-clause-found : goal.returns-in-Some-clause-found

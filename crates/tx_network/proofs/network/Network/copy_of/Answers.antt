@@ -4,7 +4,7 @@ use Rattle.tx_types.specs.declared.fault.Fault.{Fault}
 use Rattle.tx_journal.specs.Replies.{Asked}
 use Rattle.tx_journal.specs.Senders.{IsHeld}
 use Rattle.tx_network.specs.Networks.{NetworkParts, AllFit, requests, request_at}
-use Rattle.tx_network.proofs.Holding.{none_held, some_held}
+use Rattle.tx_network.proofs.HeldRequests.{none_held, some_held}
 use Rattle.tx_network.proofs.network.Network.copy_of.Goals as goal
 
 pub invariant_of-self : goal.invariant_of-self

@@ -1,7 +1,7 @@
 use Rattle.std.proofs.Common.{option_map, string_bytes, refl, sym, subst}
 use Rattle.tx_steps.specs.Steps.{delivery_named}
 use Rattle.tx_network.specs.Networks.{NetworkParts, AllFit, requests, HoldsRequest}
-use Rattle.tx_network.proofs.Holding.{requests_set, fit_set, many_set}
+use Rattle.tx_network.proofs.HeldRequests.{requests_set, fit_set, many_set}
 use Rattle.tx_network.proofs.network.Network.hold.Goals as goal
 
 pub invariant_of-self : goal.invariant_of-self

@@ -1,7 +1,7 @@
 use Rattle.std.proofs.Common.{◌≡◌, ◌&&◌, not, is_some, sym, ap, subst, ◌∙◌}
 use Rattle.tx_types.specs.Names.{is_name}
 use Rattle.tx_network.specs.Networks.{NetworkParts, body_at, requests}
-use Rattle.tx_network.proofs.Holding.{in_use}
+use Rattle.tx_network.proofs.HeldRequests.{in_use}
 use Rattle.tx_network.proofs.network.Network.is_free.Goals as goal
 
 pub returns-then-is_name : goal.returns-then-is_name

@@ -1,7 +1,7 @@
 use Rattle.std.proofs.Common.{◌≡◌, length, nat_le, sym, ap, subst, ◌∙◌}
 use Rattle.tx_types.specs.declared.limits.TheConstants.{MAX_HELD_REQUESTS}
 use Rattle.tx_network.specs.Networks.{NetworkParts}
-use Rattle.tx_network.proofs.Holding.{length_requests}
+use Rattle.tx_network.proofs.HeldRequests.{length_requests}
 use Rattle.tx_network.proofs.network.Network.is_full.Goals as goal
 
 pub returns : goal.returns

@@ -1,7 +1,7 @@
 use Rattle.std.proofs.Common.{subst, ◌∙◌}
 use Rattle.tx_core.specs.Histories.{Begins}
 use Rattle.tx_network.specs.Networks.{IsDone}
-use Rattle.tx_network.proofs.Learning.{done_learnt, done_popped}
+use Rattle.tx_network.proofs.SettledSeats.{done_learnt, done_popped}
 use Rattle.tx_network.proofs.network.Network.settle.Goals as goal
 
 pub regions-preserved : goal.regions-preserved

@@ -3,8 +3,8 @@ use Rattle.std.proofs.lemmas.List.{length-set}
 use Rattle.tx_core.specs.Worlds.{route}
 use Rattle.tx_steps.specs.Steps.{delivery_named}
 use Rattle.tx_network.specs.Networks.{NetworkParts, Displays, requests}
-use Rattle.tx_network.proofs.Showing.{displayed_at}
-use Rattle.tx_network.proofs.Posting.{there_at, numbered_set}
+use Rattle.tx_network.proofs.ShownKeys.{displayed_at}
+use Rattle.tx_network.proofs.Posts.{there_at, numbered_set}
 use Rattle.tx_network.proofs.network.Network.show_key.Goals as goal
 
 pub invariant_of-self : goal.invariant_of-self

@@ -6,7 +6,7 @@ use Rattle.tx_journal.specs.Known.{Known}
 use Rattle.tx_journal.specs.Replies.{Asked}
 use Rattle.tx_steps.specs.Steps.{delivery_named}
 use Rattle.tx_network.specs.Networks.{NetworkParts, Hands, NotesTaken, Taken, region_for, requests}
-use Rattle.tx_network.proofs.Posting.{there_at, numbered_at, numbered_set, handed_at, taken_by}
+use Rattle.tx_network.proofs.Posts.{there_at, numbered_at, numbered_set, handed_at, taken_by}
 use Rattle.tx_network.proofs.network.Network.take.Goals as goal
 
 pub take-reply-requires : goal.take-reply-requires

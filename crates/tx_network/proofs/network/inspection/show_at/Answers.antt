@@ -4,7 +4,7 @@ use Rattle.tx_cells.specs.Copies.{Copies}
 use Rattle.tx_core.specs.Histories.{History, Begins, left}
 use Rattle.tx_journal.specs.Known.{Known}
 use Rattle.tx_network.specs.Networks.{Showed}
-use Rattle.tx_network.proofs.Showing.{showed_by}
+use Rattle.tx_network.proofs.ShownKeys.{showed_by}
 use Rattle.tx_network.proofs.network.inspection.show_at.Goals as goal
 
 pub returns : goal.returns

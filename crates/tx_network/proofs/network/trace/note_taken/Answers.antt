@@ -1,7 +1,7 @@
 use Rattle.std.proofs.Common.{Some, sym, subst, ◌∙◌}
 use Rattle.tx_core.specs.declared.event.Event.TheVariants.{Took}
 use Rattle.tx_network.specs.Networks.{GoesOnWith}
-use Rattle.tx_network.proofs.Tracing.{went_well}
+use Rattle.tx_network.proofs.Traces.{went_well}
 use Rattle.tx_network.proofs.network.trace.note_taken.Goals as goal
 
 pub returns-else-is_err : goal.returns-else-is_err

@@ -1,7 +1,7 @@
 -- The search after a step to a new node.
 use Rattle.std.proofs.Common.{arith}
 use Rattle.std.proofs.lemmas.Grind.{common_steps}
-use Rattle.tx_order.proofs.Entering.{Enters, entered, entered-met, entered-smaller}
+use Rattle.tx_order.proofs.NodeEntries.{Enters, entered, entered-met, entered-smaller}
 use Rattle.tx_order.proofs.search.Search.enter.Goals as goal
 
 pub returns-clause-search : goal.returns-clause-search

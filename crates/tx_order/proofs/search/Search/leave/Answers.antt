@@ -5,7 +5,7 @@ use Rattle.tx_order.specs.declared.search.Mark.{Mark}
 use Rattle.tx_order.specs.declared.search.Mark.TheVariants.{Done}
 use Rattle.tx_order.specs.declared.search.Frame.{Frame}
 use Rattle.tx_order.specs.Search.{edge_at, top_of, IsSearch, steps_left}
-use Rattle.tx_order.proofs.Leaving.{Leaves, left, left-smaller, top_push}
+use Rattle.tx_order.proofs.NodeExits.{Leaves, left, left-smaller, top_push}
 use Rattle.tx_order.proofs.search.Search.leave.Goals as goal
 
 -- what is asked, where the path is some nodes and a last one

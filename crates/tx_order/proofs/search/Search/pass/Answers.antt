@@ -1,7 +1,7 @@
 -- The search once an edge of the last node on its path is passed.
 use Rattle.std.proofs.Common.{◌≡◌, length, arith}
 use Rattle.std.proofs.lemmas.Grind.{common_steps}
-use Rattle.tx_order.proofs.Passing.{passing}
+use Rattle.tx_order.proofs.PassedEdges.{passing}
 use Rattle.tx_order.proofs.search.Search.pass.Goals as goal
 
 pub returns-clause-search : goal.returns-clause-search

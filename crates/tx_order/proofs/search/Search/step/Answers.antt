@@ -2,7 +2,7 @@
 use Rattle.std.proofs.Common.{◌≡◌}
 use Rattle.tx_order.specs.declared.search.Mark.TheVariants.{Open}
 use Rattle.tx_order.specs.Search.{mark_of}
-use Rattle.tx_order.proofs.Closing.{closes, within_at, mark_read}
+use Rattle.tx_order.proofs.BackEdges.{closes, within_at, mark_read}
 use Rattle.tx_order.proofs.search.Search.step.Goals as goal
 
 pub returns-in-Open-clause-back : goal.returns-in-Open-clause-back

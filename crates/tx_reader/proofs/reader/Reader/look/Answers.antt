@@ -2,7 +2,7 @@ use Rattle.std.proofs.Common.{sym, subst}
 use Rattle.tx_core.specs.Allowed.{Allowed}
 use Rattle.tx_core.specs.Worlds.{IsWorldRun}
 use Rattle.tx_reader.specs.Readers.{Reading, OnlySees}
-use Rattle.tx_reader.proofs.Seeing.{held_of, sees_itself, learns_sees, keeps_learnt}
+use Rattle.tx_reader.proofs.Observers.{held_of, sees_itself, learns_sees, keeps_learnt}
 use Rattle.tx_reader.proofs.reader.Reader.look.Goals as goal
 
 pub returns-in_default-clause-seat : goal.returns-in_default-clause-seat

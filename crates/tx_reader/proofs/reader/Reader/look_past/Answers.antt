@@ -1,6 +1,7 @@
 use Rattle.std.proofs.Common.{ℕ, IfOk, subst, ◌∙◌}
-use Rattle.tx_reader.specs.Readers.{FindsAt}
-use Rattle.tx_reader.proofs.Seeing.{sees_more, keeps_seen, found_by, if_found_by, locked_finds}
+use Rattle.tx_reader.specs.Readers.{FindsAt, IsAnswerTo}
+use Rattle.tx_reader.proofs.Observers.{sees_more, keeps_seen, found_by, if_found_by, locked_finds}
+use Rattle.tx_reader.proofs.ReadAnswers.{may_be, if_may_be, locked_may}
 use Rattle.tx_reader.proofs.reader.Reader.look_past.Goals as goal
 
 pub invariant_of-self : goal.invariant_of-self
@@ -29,6 +30,9 @@ returns-then-not-branch-clause-finds g c =
     locked_finds g.J.JournalId.bounds c.pass.new.self.seat.events c.args.self.now.at c.args.read.now
     c.in-KeyIsLocked.info
 
+pub returns-then-not-branch-clause-may : goal.returns-then-not-branch-clause-may
+returns-then-not-branch-clause-may g c = locked_may c.args.self.now.at c.args.read.now c.in-KeyIsLocked.info
+
 pub returns-in_default : goal.returns-in_default
 returns-in_default g c = record {
   at = c.look.ensures.at ∙ c.loop.invariant.0;
@@ -37,6 +41,9 @@ returns-in_default g c = record {
       (λ (n : ℕ). FindsAt g.J.JournalId.bounds c.look.new.self.seat.events n c.args.read.now c.in_ok-answer.answer)
       c.loop.invariant.0
       (found_by g.J.JournalId.bounds c.look.new.self.seat.events c.look.ensures.run c.loop.self.at c.args.read.now
+      c.in_ok-answer.ensures.told.0 c.in_ok-answer.ensures.told.1 c.in_ok-answer.answer c.in_ok-answer.ensures.told.2);
+  may = subst (λ (n : ℕ). IsAnswerTo n c.args.read.now c.in_ok-answer.answer) c.loop.invariant.0
+      (may_be g.J.JournalId.bounds c.look.new.self.seat.events c.look.ensures.run c.loop.self.at c.args.read.now
       c.in_ok-answer.ensures.told.0 c.in_ok-answer.ensures.told.1 c.in_ok-answer.answer c.in_ok-answer.ensures.told.2);
 }
 
@@ -54,7 +61,14 @@ returns-clause-seat g c =
 
 pub returns-clause-finds : goal.returns-clause-finds
 returns-clause-finds g c =
-    subst (λ (n : ℕ). IfOk c.look-2.result (FindsAt g.J.JournalId.bounds c.look-2.new.self.seat.events n c.args.read.now))
+    subst (λ (n : ℕ). IfOk c.look-2.result (FindsAt g.J.JournalId.bounds c.look-2.new.self.seat.events n
+    c.args.read.now))
     c.loop.invariant.0
     (if_found_by g.J.JournalId.bounds c.look-2.new.self.seat.events c.loop.self.at c.args.read.now c.look-2.ensures.run
+    c.look-2.result c.look-2.ensures.told)
+
+pub returns-clause-may : goal.returns-clause-may
+returns-clause-may g c =
+    subst (λ (n : ℕ). IfOk c.look-2.result (IsAnswerTo n c.args.read.now)) c.loop.invariant.0
+    (if_may_be g.J.JournalId.bounds c.look-2.new.self.seat.events c.look-2.ensures.run c.loop.self.at c.args.read.now
     c.look-2.result c.look-2.ensures.told)

@@ -3,7 +3,7 @@ use Rattle.tx_core.specs.Histories.{Begins}
 use Rattle.tx_client.specs.declared.resolved.Status.{Status}
 use Rattle.tx_client.specs.Statuses.{lies_above}
 use Rattle.tx_reader.specs.Readers.{Reading}
-use Rattle.tx_reader.proofs.Seeing.{noted_either}
+use Rattle.tx_reader.proofs.Observers.{noted_either}
 use Rattle.tx_reader.proofs.reader.Reader.note.Goals as goal
 
 pub invariant_of-self : goal.invariant_of-self

@@ -3,7 +3,7 @@ use Rattle.tx_core.specs.Histories.{History, Begins}
 use Rattle.tx_core.proofs.seats.Beginnings.{begins_all}
 use Rattle.tx_resolve.specs.BlockedReads.{read_walk}
 use Rattle.tx_reader.specs.Readers.{Reading, OnlySees}
-use Rattle.tx_reader.proofs.Seeing.{sent_sees, keeps_sent}
+use Rattle.tx_reader.proofs.Observers.{sent_sees, keeps_sent}
 use Rattle.tx_reader.proofs.reader.Reader.pass.Goals as goal
 
 pub invariant_of-self : goal.invariant_of-self

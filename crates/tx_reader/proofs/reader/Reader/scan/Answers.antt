@@ -1,7 +1,7 @@
 use Rattle.std.proofs.Common.{◌≡◌, sym, subst, rules}
 use Rattle.tx_types.specs.declared.key.Key.{Key}
 use Rattle.tx_reader.specs.Readers.{AreTogether}
-use Rattle.tx_reader.proofs.Seeing.{sees_itself}
+use Rattle.tx_reader.proofs.Observers.{sees_itself}
 use Rattle.tx_reader.proofs.reader.Reader.scan.Goals as goal
 
 pub returns-in_default-clause-seat : goal.returns-in_default-clause-seat

@@ -13,11 +13,17 @@ plan_on-planned-requires g c =
     let inside = c.self.inside in
     let q = c.args.request.now in
     let copy = subst (λ (t : Tried). IsSomeAnd t.copy (λ x. IsCopyFor q x)) (sym c.self.view_is) c.requires in
-    let low = low_of (λ s. s.told) (λ s. s.bytes) inside.region inside.view inside.numbers inside.taken inside.loaded inside.seen q c.self.invariant copy in
-    let looks = looks_of (λ s. s.told) (λ s. s.bytes) inside.region inside.view inside.numbers inside.taken inside.loaded inside.seen q copy in
+    let low = low_of (λ s. s.told) (λ s. s.bytes) inside.region inside.view inside.numbers inside.taken inside.loaded
+    inside.seen q c.self.invariant copy in
+    let looks = looks_of (λ s. s.told) (λ s. s.bytes) inside.region inside.view inside.numbers inside.taken
+    inside.loaded inside.seen q copy in
     record {
       room = (omega (arith, low.0), omega (arith, low.1));
-      seen = (looks.0, subst (λ (b : Body). LooksLike looks.0 b inside.view inside.numbers) (sym c.body.ensures.body) looks.1);
+      seen = (
+        looks.0,
+        subst (λ (b : Body). LooksLike looks.0 b inside.view inside.numbers) (sym c.body.ensures.body)
+            looks.1,
+      );
     }
 
 pub returns-clause-plan : goal.returns-clause-plan
@@ -26,8 +32,14 @@ returns-clause-plan g c =
     let q = c.args.request.now in
     let old = c.args.self.now in
     let copy = subst (λ (t : Tried). IsSomeAnd t.copy (λ x. IsCopyFor q x)) (sym c.self.view_is) c.requires in
-    let plans : (r : Region) → LooksLike r q.body inside.view inside.numbers → IsPlan inside.loaded.mark r inside.loaded.last q.body c.plan_on-planned.result =
-    λ r looks. subst (λ (b : Body). IsPlan inside.loaded.mark r inside.loaded.last b c.plan_on-planned.result) c.body.ensures.body
-    (c.plan_on-planned.ensures r (subst (λ (b : Body). LooksLike r b inside.view inside.numbers) (sym c.body.ensures.body) looks)) in
-    let is = plan_of (λ s. s.told) (λ s. s.bytes) inside.region inside.view inside.numbers inside.taken inside.loaded inside.seen q c.plan_on-planned.result copy plans in
-    subst (λ (t : Tried). IsSomeAnd (plan_in (λ s. s.told) (λ s. s.bytes) inside.region inside.view inside.numbers inside.taken inside.loaded inside.seen (Some c.plan_on-planned.result)) (λ plan. IsPlanFor q plan × IsSomeAnd t.copy (λ x. (plan.region ≡ x.region) × (plan.events ≡ x.events)))) c.self.view_is is
+    let plans : (r : Region) → LooksLike r q.body inside.view inside.numbers
+    → IsPlan inside.loaded.mark r inside.loaded.last q.body c.plan_on-planned.result =
+    λ r looks. subst (λ (b : Body). IsPlan inside.loaded.mark r inside.loaded.last b c.plan_on-planned.result)
+    c.body.ensures.body
+    (c.plan_on-planned.ensures r (subst (λ (b : Body). LooksLike r b inside.view inside.numbers)
+    (sym c.body.ensures.body) looks)) in
+    let is = plan_of (λ s. s.told) (λ s. s.bytes) inside.region inside.view inside.numbers inside.taken inside.loaded
+    inside.seen q c.plan_on-planned.result copy plans in
+    subst (λ (t : Tried). IsSomeAnd (plan_in (λ s. s.told) (λ s. s.bytes) inside.region inside.view inside.numbers
+    inside.taken inside.loaded inside.seen (Some c.plan_on-planned.result)) (λ plan. IsPlanFor q plan
+    × IsSomeAnd t.copy (λ x. (plan.region ≡ x.region) × (plan.events ≡ x.events)))) c.self.view_is is

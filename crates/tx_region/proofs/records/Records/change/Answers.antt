@@ -8,7 +8,7 @@ use Rattle.tx_core.specs.LastChanges.{NotesAll}
 use Rattle.tx_region.specs.Copies.{key_in, made, MayMake}
 use Rattle.tx_region.specs.Regions.{region_of}
 use Rattle.tx_region.proofs.Basics.{on_ok_both, on_ok_three}
-use Rattle.tx_region.proofs.Carrying.{region_put, made_other, may_other}
+use Rattle.tx_region.proofs.PlanEffects.{region_put, made_other, may_other}
 use Rattle.tx_region.proofs.Notes.{notes_change}
 use Rattle.tx_region.proofs.records.Records.change.Goals as goal
 

@@ -5,7 +5,7 @@ use Rattle.tx_plan.specs.Cells.{with_cells}
 use Rattle.tx_plan.specs.Changes.{new_lock, after_put, CanPut}
 use Rattle.tx_region.specs.Regions.{region_of}
 use Rattle.tx_region.proofs.Basics.{on_ok_both, on_ok_three}
-use Rattle.tx_region.proofs.Carrying.{region_put}
+use Rattle.tx_region.proofs.PlanEffects.{region_put}
 use Rattle.tx_region.proofs.Notes.{notes_put}
 use Rattle.tx_region.proofs.records.Records.put.Goals as goal
 

@@ -7,7 +7,7 @@ use Rattle.tx_journal.specs.Replies.{Asked}
 use Rattle.tx_region.specs.Calls.{Executes, Counts}
 use Rattle.tx_region.specs.Regions.{region_of}
 use Rattle.tx_region.specs.TakenRequests.{Loads, Answered}
-use Rattle.tx_region.proofs.Taking.{least_taken, does_taken, knows_taken, may_take_it, reads_taken, keeps_took, keeps_same, answered, if_some_is}
+use Rattle.tx_region.proofs.TakenRequests.{least_taken, does_taken, knows_taken, may_take_it, reads_taken, keeps_took, keeps_same, answered, if_some_is}
 use Rattle.tx_region.proofs.region.Region.answer.Goals as goal
 
 pub answer-requires : goal.answer-requires

@@ -9,7 +9,7 @@ use Rattle.tx_region.specs.Copies.{IsOfKey, key_in, SameKey, IsPlan}
 use Rattle.tx_region.specs.KeyPlans.{PlanOf, AreOf, StayedKey, CarriesPlan}
 use Rattle.tx_region.specs.Regions.{region_of}
 use Rattle.tx_region.specs.TakenRequests.{Knows, NeedsMark}
-use Rattle.tx_region.proofs.Applying.{number_low, key_same, key_stayed, not_before, plan_mid, knows_mid, mark_mid, comes_of}
+use Rattle.tx_region.proofs.PlanResults.{number_low, key_same, key_stayed, not_before, plan_mid, knows_mid, mark_mid, comes_of}
 use Rattle.tx_region.proofs.region.Region.apply.Goals as goal
 
 pub bytes_if_stayed-requires : goal.bytes_if_stayed-requires

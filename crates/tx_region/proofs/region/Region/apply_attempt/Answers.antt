@@ -7,7 +7,7 @@ use Rattle.tx_region.specs.Attempts.{Tried, applied_in, ComesIn}
 use Rattle.tx_region.specs.Copies.{key_in, SameKey}
 use Rattle.tx_region.specs.KeyPlans.{PlanOf, AreOf, IsPlanFor, StayedKey}
 use Rattle.tx_region.specs.Regions.{region_of}
-use Rattle.tx_region.proofs.Applying.{key_same, key_stayed, not_before, knows_mid, mark_mid, comes_of}
+use Rattle.tx_region.proofs.PlanResults.{key_same, key_stayed, not_before, knows_mid, mark_mid, comes_of}
 use Rattle.tx_region.proofs.Attempts.{plan_there, if_plan, are_there}
 use Rattle.tx_region.proofs.region.Region.apply_attempt.Goals as goal
 

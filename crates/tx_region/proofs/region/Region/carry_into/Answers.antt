@@ -7,8 +7,8 @@ use Rattle.tx_journal.specs.Replies.{Given}
 use Rattle.tx_region.specs.Calls.{CarriesOut, Counts}
 use Rattle.tx_region.specs.Copies.{IsOfKey, IsAbove, MayMake, key_in, made}
 use Rattle.tx_region.specs.Regions.{region_of}
-use Rattle.tx_region.proofs.Applying.{plan_holds, knows_here, may_here, reads_here, does_here, carried}
-use Rattle.tx_region.proofs.Taking.{seen_inside, keeps_took, keeps_same, if_some_is, if_none_is}
+use Rattle.tx_region.proofs.PlanResults.{plan_holds, knows_here, may_here, reads_here, does_here, carried}
+use Rattle.tx_region.proofs.TakenRequests.{seen_inside, keeps_took, keeps_same, if_some_is, if_none_is}
 use Rattle.tx_region.proofs.region.Region.carry_into.Goals as goal
 
 pub make_by_bytes-requires : goal.make_by_bytes-requires

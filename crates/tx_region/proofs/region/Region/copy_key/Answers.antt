@@ -9,7 +9,7 @@ use Rattle.tx_region.specs.KeyPlans.{Copied, AreOf, IsCopyFor}
 use Rattle.tx_region.specs.Regions.{region_of}
 use Rattle.tx_region.specs.TakenRequests.{Loads, Knows}
 use Rattle.tx_region.proofs.Copies.{looks_same}
-use Rattle.tx_region.proofs.Taking.{knows_loads}
+use Rattle.tx_region.proofs.TakenRequests.{knows_loads}
 use Rattle.tx_region.proofs.region.Region.copy_key.Goals as goal
 
 pub spell-requires : goal.spell-requires

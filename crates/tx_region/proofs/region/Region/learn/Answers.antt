@@ -1,5 +1,5 @@
 use Rattle.tx_region.specs.Regions.{region_of}
-use Rattle.tx_region.proofs.Taking.{keeps_seen}
+use Rattle.tx_region.proofs.TakenRequests.{keeps_seen}
 use Rattle.tx_region.proofs.region.Region.learn.Goals as goal
 
 pub invariant_of-self : goal.invariant_of-self

@@ -7,7 +7,7 @@ use Rattle.tx_journal.specs.Replies.{Asked}
 use Rattle.tx_journal.proofs.Calls.{seen_more}
 use Rattle.tx_region.specs.Regions.{region_of}
 use Rattle.tx_region.specs.TakenRequests.{IsMark, Loads}
-use Rattle.tx_region.proofs.Taking.{keeps_seen}
+use Rattle.tx_region.proofs.TakenRequests.{keeps_seen}
 use Rattle.tx_region.proofs.region.Region.load.Goals as goal
 
 pub invariant_of-self : goal.invariant_of-self

@@ -1,5 +1,5 @@
 use Rattle.tx_region.specs.Regions.{region_of}
-use Rattle.tx_region.proofs.Taking.{keeps_first}
+use Rattle.tx_region.proofs.TakenRequests.{keeps_first}
 use Rattle.tx_region.proofs.region.Region.new.Goals as goal
 
 pub invariant_of-result : goal.invariant_of-result

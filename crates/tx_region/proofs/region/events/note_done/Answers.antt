@@ -4,7 +4,7 @@ use Rattle.tx_plan.specs.declared.body.Body.{Body}
 use Rattle.tx_core.specs.declared.event.Event.TheVariants.{Took}
 use Rattle.tx_core.specs.Histories.{History}
 use Rattle.tx_journal.specs.Known.{HasRecorded}
-use Rattle.tx_region.proofs.Taking.{given_by}
+use Rattle.tx_region.proofs.TakenRequests.{given_by}
 use Rattle.tx_region.proofs.region.events.note_done.Goals as goal
 
 pub returns-clause-given : goal.returns-clause-given

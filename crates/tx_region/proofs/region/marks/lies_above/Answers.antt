@@ -1,4 +1,4 @@
-use Rattle.tx_region.proofs.Taking.{extends_itself}
+use Rattle.tx_region.proofs.TakenRequests.{extends_itself}
 use Rattle.tx_region.proofs.region.marks.lies_above.Goals as goal
 
 pub returns-in-None-clause-seen : goal.returns-in-None-clause-seen

@@ -5,8 +5,8 @@ use Rattle.tx_run.specs.States.{buffer_of, going_of}
 use Rattle.tx_run.specs.declared.reply.LineAnswer.TheVariants.{Ended}
 use Rattle.tx_run.specs.Logs.{Logged}
 use Rattle.tx_run.specs.Jobs.{JobGoesOn, MayAnswer, Working, with_line}
-use Rattle.tx_run.proofs.Going.{answered}
-use Rattle.tx_run.proofs.Writing.{on_ok, on_err}
+use Rattle.tx_run.proofs.AnsweredLines.{answered}
+use Rattle.tx_run.proofs.WrittenLines.{on_ok, on_err}
 use Rattle.tx_run.proofs.job.ScriptJob.conclude.Goals as goal
 
 pub returns-clause-kept : goal.returns-clause-kept
@@ -21,7 +21,8 @@ returns-clause-kept g c =
     } in
     let may = subst MayAnswer (sym c.self.view_is) c.requires.may in
     on_ok c.finish.result c.finish.ensures.kept (λ k. (
-      subst (λ (w : Working). JobGoesOn (with_line c.args.number w) (record j { log = c.finish.new.self })) c.self.view_is
+      subst (λ (w : Working). JobGoesOn (with_line c.args.number w) (record j { log = c.finish.new.self }))
+          c.self.view_is
           (answered j c.finish.new.self c.args.number (Ended k.0 k.1 c.args.keys) may c.finish.ensures.same k.2),
       may,
     ))

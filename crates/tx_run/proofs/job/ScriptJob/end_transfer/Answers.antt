@@ -1,6 +1,6 @@
 use Rattle.std.proofs.Common.{ℕ, [], subst}
 use Rattle.tx_run.specs.Jobs.{JobGoesOn, with_line}
-use Rattle.tx_run.proofs.Going.{to_state}
+use Rattle.tx_run.proofs.AnsweredLines.{to_state}
 use Rattle.tx_run.proofs.job.ScriptJob.end_transfer.Goals as goal
 
 pub returns-in-Ok : goal.returns-in-Ok

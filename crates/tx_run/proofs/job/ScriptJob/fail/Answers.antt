@@ -5,8 +5,8 @@ use Rattle.tx_run.specs.LineNumbers.{number_of}
 use Rattle.tx_run.specs.States.{buffer_of, going_of}
 use Rattle.tx_run.specs.Tells.{Owns}
 use Rattle.tx_run.proofs.Evidence.{fault_tells}
-use Rattle.tx_run.proofs.Going.{failed, sound_failed}
-use Rattle.tx_run.proofs.Leaving.{owns_over}
+use Rattle.tx_run.proofs.AnsweredLines.{failed, sound_failed}
+use Rattle.tx_run.proofs.LinesLeft.{owns_over}
 use Rattle.tx_run.proofs.job.ScriptJob.fail.Goals as goal
 
 pub returns : goal.returns

@@ -1,4 +1,4 @@
-use Rattle.tx_run.proofs.Going.{began}
+use Rattle.tx_run.proofs.AnsweredLines.{began}
 use Rattle.tx_run.proofs.job.ScriptJob.go_on.Goals as goal
 
 pub returns : goal.returns

@@ -1,7 +1,7 @@
 use Rattle.std.proofs.Common.{ap, ◌∙◌}
 use Rattle.std.specs.Prelude.{is_some}
 use Rattle.tx_run.specs.Jobs.{Working}
-use Rattle.tx_run.proofs.Going.{transferring}
+use Rattle.tx_run.proofs.AnsweredLines.{transferring}
 use Rattle.tx_run.proofs.job.ScriptJob.is_transferring.Goals as goal
 
 pub returns : goal.returns

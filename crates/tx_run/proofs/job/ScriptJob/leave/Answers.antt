@@ -3,5 +3,6 @@ use Rattle.tx_run.proofs.job.ScriptJob.leave.Goals as goal
 
 pub report-requires-clause-tells : goal.report-requires-clause-tells
 report-requires-clause-tells g c =
-    done_tells g.L.Source.text g.J.JournalId.bounds c.set_state.new.self.log.told c.args.number c.new.result c.new.ensures
+    done_tells g.L.Source.text g.J.JournalId.bounds c.set_state.new.self.log.told c.args.number c.new.result
+    c.new.ensures
     c.requires.says

@@ -1,7 +1,7 @@
 use Rattle.std.proofs.Common.{ap}
 use Rattle.tx_run.specs.Answers.{has_fault}
 use Rattle.tx_run.specs.LineNumbers.{number_of}
-use Rattle.tx_run.proofs.Leaving.{owns_turned}
+use Rattle.tx_run.proofs.LinesLeft.{owns_turned}
 use Rattle.tx_run.proofs.job.ScriptJob.new.Goals as goal
 
 pub invariant_of-result : goal.invariant_of-result

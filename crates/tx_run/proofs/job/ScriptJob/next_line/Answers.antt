@@ -3,7 +3,7 @@ use Rattle.std.specs.Prelude.{reverse, IfSome}
 use Rattle.tx_run.specs.Jobs.{Working}
 use Rattle.tx_run.specs.LineNumbers.{number_of}
 use Rattle.tx_run.specs.States.{buffer_of, going_of}
-use Rattle.tx_run.proofs.Leaving.{one_before, one_entered, one_own, owns_left, some_left, sound_left}
+use Rattle.tx_run.proofs.LinesLeft.{one_before, one_entered, one_own, owns_left, some_left, sound_left}
 use Rattle.tx_run.proofs.job.ScriptJob.next_line.Goals as goal
 
 pub invariant_of-self : goal.invariant_of-self
@@ -46,7 +46,8 @@ returns-clause-own g c =
 
 pub returns-clause-later : goal.returns-clause-later
 returns-clause-later g c =
-    one_before number_of g.L.Source.text c.self.inside.number c.self.inside.lines.items c.pop.new.self.items c.pop.result
+    one_before number_of g.L.Source.text c.self.inside.number c.self.inside.lines.items c.pop.new.self.items
+    c.pop.result
     c.pop.ensures.items c.self.invariant.1.lines
 
 pub returns-clause-entered : goal.returns-clause-entered

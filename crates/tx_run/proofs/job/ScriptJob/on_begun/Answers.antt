@@ -5,7 +5,7 @@ use Rattle.tx_run.specs.Jobs.{Working}
 use Rattle.tx_run.specs.Logs.{answer_to}
 use Rattle.tx_run.specs.Tells.{TellsLine}
 use Rattle.tx_run.proofs.Evidence.{session_step, start_tells}
-use Rattle.tx_run.proofs.Going.{may_heard, may_still}
+use Rattle.tx_run.proofs.AnsweredLines.{may_heard, may_still}
 use Rattle.tx_run.proofs.job.ScriptJob.on_begun.Goals as goal
 
 pub report-requires-clause-tells : goal.report-requires-clause-tells
@@ -13,9 +13,11 @@ report-requires-clause-tells g c =
     let source = g.L.Source.text in
     let bounds = g.J.JournalId.bounds in
     let is = c.new-in-Ok.ensures ∙ ap reply.Start c.start-start.ensures in
-    subst (λ (w : Working). TellsLine source bounds w.log.told (answer_to c.args.number (Plain (Ok c.new-in-Ok.result))))
+    subst (λ (w : Working). TellsLine source bounds w.log.told
+    (answer_to c.args.number (Plain (Ok c.new-in-Ok.result))))
     (sym c.set_state.ensures)
-    (start_tells source bounds c.hear.new.self.log.told c.args.number c.args.session c.new-in-Ok.result is c.requires.says
+    (start_tells source bounds c.hear.new.self.log.told c.args.number c.args.session c.new-in-Ok.result is
+    c.requires.says
     c.requires.begun c.hear.ensures.knows)
 
 pub report-requires-clause-may : goal.report-requires-clause-may

@@ -6,7 +6,7 @@ use Rattle.tx_run.specs.declared.reply.LineAnswer.TheVariants.{Plain}
 use Rattle.tx_run.specs.Logs.{answer_to}
 use Rattle.tx_run.specs.Tells.{TellsLine}
 use Rattle.tx_run.specs.Jobs.{JobGoesOn, MayAnswer, Working, with_line}
-use Rattle.tx_run.proofs.Going.{answered}
+use Rattle.tx_run.proofs.AnsweredLines.{answered}
 use Rattle.tx_run.proofs.job.ScriptJob.report.Goals as goal
 
 pub returns : goal.returns

@@ -3,5 +3,6 @@ use Rattle.tx_run.proofs.job.ScriptJob.report_refusal.Goals as goal
 
 pub report-requires-clause-tells : goal.report-requires-clause-tells
 report-requires-clause-tells g c =
-    refusal_tells g.L.Source.text g.J.JournalId.bounds c.args.self.now.log.told c.args.number c.args.plain c.requires.says
+    refusal_tells g.L.Source.text g.J.JournalId.bounds c.args.self.now.log.told c.args.number c.args.plain
+    c.requires.says
     c.requires.refusal

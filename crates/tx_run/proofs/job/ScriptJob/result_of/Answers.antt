@@ -21,7 +21,8 @@ returns-in-Act-clause-tells g c =
     let bounds = g.J.JournalId.bounds in
     let job = c.args.self.now.number in
     let own = subst (λ (s : Step (Bor Text)). SaysOwn source job c.args.number (asked s)) c.in-Act.is c.requires.says in
-    subst (λ (s : Step (Bor Text)). SaidTells bounds (EnteredBefore source c.args.number) c.act.new.session.seat.events (asked s)
+    subst (λ (s : Step (Bor Text)). SaidTells bounds (EnteredBefore source c.args.number)
+    c.act.new.session.seat.events (asked s)
     (said_of c.act.result)) (sym c.in-Act.is)
     (act_own source bounds job c.args.number c.in-Act.field-0.now c.args.session.now c.act.new.session
     (said_of c.act.result) c.requires.own _ _ (acted c.in-Act.action) own c.act.ensures).1
@@ -30,7 +31,8 @@ pub returns-in-Send-clause-own : goal.returns-in-Send-clause-own
 returns-in-Send-clause-own g c =
     let source = g.L.Source.text in
     let job = c.args.self.now.number in
-    let own = subst (λ (s : Step (Bor Text)). SaysOwn source job c.args.number (asked s)) c.in-Send.is c.requires.says in
+    let own = subst (λ (s : Step (Bor Text)). SaysOwn source job c.args.number (asked s)) c.in-Send.is c.requires.says
+    in
     (send_own source g.J.JournalId.bounds job c.args.number c.in-Send.field-0.now c.args.session.now c.send.new.session
     (said_of c.send.result) c.requires.own (called c.in-Send.request) (delivered c.in-Send.field-2) own
     c.send.ensures.sends).0
@@ -40,8 +42,10 @@ returns-in-Send-clause-tells g c =
     let source = g.L.Source.text in
     let bounds = g.J.JournalId.bounds in
     let job = c.args.self.now.number in
-    let own = subst (λ (s : Step (Bor Text)). SaysOwn source job c.args.number (asked s)) c.in-Send.is c.requires.says in
-    subst (λ (s : Step (Bor Text)). SaidTells bounds (EnteredBefore source c.args.number) c.send.new.session.seat.events (asked s)
+    let own = subst (λ (s : Step (Bor Text)). SaysOwn source job c.args.number (asked s)) c.in-Send.is c.requires.says
+    in
+    subst (λ (s : Step (Bor Text)). SaidTells bounds (EnteredBefore source c.args.number)
+    c.send.new.session.seat.events (asked s)
     (said_of c.send.result)) (sym c.in-Send.is)
     (send_own source bounds job c.args.number c.in-Send.field-0.now c.args.session.now c.send.new.session
     (said_of c.send.result) c.requires.own (called c.in-Send.request) (delivered c.in-Send.field-2) own
@@ -54,6 +58,7 @@ returns-in-Begin-clause-own g c =
 pub returns-in_default : goal.returns-in_default
 returns-in_default g c = record {
   job = refl;
-  own = next_entered g.L.Source.text c.args.self.now.number c.args.number c.args.session.now.state.buffer c.requires.own;
+  own = next_entered g.L.Source.text c.args.self.now.number c.args.number c.args.session.now.state.buffer
+      c.requires.own;
   tells = tt;
 }

@@ -7,10 +7,10 @@ use Rattle.tx_transaction.specs.Sessions.{SessionState}
 use Rattle.tx_run.specs.Logs.{KeepsOutcome, Logged, TellsBy}
 use Rattle.tx_transfer.specs.Transfers.{IsBetween}
 use Rattle.tx_transfer.specs.Transfers.{MovesSome}
-use Rattle.tx_transfer.proofs.Transferring.{ends_between}
+use Rattle.tx_transfer.proofs.TransferWrites.{ends_between}
 use Rattle.tx_run.specs.Pairs.{TellsPair}
 use Rattle.tx_run.specs.Tells.{TellsLine}
-use Rattle.tx_run.proofs.Answering.{can_tell}
+use Rattle.tx_run.proofs.SessionAnswers.{can_tell}
 use Rattle.tx_run.proofs.log.RunLog.finish.Goals as goal
 
 pub learn_outcome-requires-clause-tell : goal.learn_outcome-requires-clause-tell

@@ -3,7 +3,7 @@ use Rattle.tx_core.specs.Histories.{History, Begins}
 use Rattle.tx_core.proofs.seats.Beginnings.{extends_begins}
 use Rattle.tx_run.specs.Logs.{TellsBy}
 use Rattle.tx_run.specs.Tells.{TellsLine}
-use Rattle.tx_run.proofs.Answering.{tells_on}
+use Rattle.tx_run.proofs.SessionAnswers.{tells_on}
 use Rattle.tx_run.proofs.Evidence.{lines_tell_on}
 use Rattle.tx_run.proofs.log.RunLog.hear.Goals as goal
 

@@ -3,10 +3,10 @@ use Rattle.std.specs.Prelude.{◌||◌, not}
 use Rattle.tx_run.specs.declared.reply.LineReply.{LineReply}
 use Rattle.tx_run.specs.declared.reply.LineAnswer.TheVariants.{Plain}
 use Rattle.tx_run.specs.Logs.{KeepsAnswer, Logged}
-use Rattle.tx_run.proofs.Answering.{told_if, plain_apart, kept_if}
+use Rattle.tx_run.proofs.SessionAnswers.{told_if, plain_apart, kept_if}
 use Rattle.tx_run.specs.Tells.{TellsLine}
 use Rattle.tx_run.proofs.Evidence.{tell_if}
-use Rattle.tx_run.proofs.Sourcing.{pairs_if}
+use Rattle.tx_run.proofs.Sources.{pairs_if}
 use Rattle.tx_run.proofs.log.RunLog.keep.Goals as goal
 
 pub invariant_of-self : goal.invariant_of-self

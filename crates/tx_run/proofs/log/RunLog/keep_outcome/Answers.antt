@@ -3,9 +3,9 @@ use Rattle.std.specs.Prelude.{◌||◌, not}
 use Rattle.tx_run.specs.declared.reply.LineReply.{LineReply}
 use Rattle.tx_run.specs.declared.reply.LineAnswer.TheVariants.{Ended}
 use Rattle.tx_run.specs.Logs.{Logged, IsAnswered, KeepsAnswer, TellsNone}
-use Rattle.tx_run.proofs.Answering.{told_if, none_apart, kept_if}
+use Rattle.tx_run.proofs.SessionAnswers.{told_if, none_apart, kept_if}
 use Rattle.tx_run.proofs.Evidence.{outcome_tells, tell_if}
-use Rattle.tx_run.proofs.Sourcing.{pairs_if}
+use Rattle.tx_run.proofs.Sources.{pairs_if}
 use Rattle.tx_run.proofs.log.RunLog.keep_outcome.Goals as goal
 
 pub invariant_of-self : goal.invariant_of-self

@@ -3,7 +3,7 @@ use Rattle.tx_core.specs.Histories.{Begins}
 use Rattle.tx_run.specs.Logs.{Logged, TellsBy}
 use Rattle.std.proofs.Common.{All}
 use Rattle.tx_run.specs.Tells.{TellsLine}
-use Rattle.tx_run.proofs.Answering.{tells_on}
+use Rattle.tx_run.proofs.SessionAnswers.{tells_on}
 use Rattle.tx_run.proofs.Evidence.{lines_tell_on}
 use Rattle.tx_run.proofs.log.RunLog.learn.Goals as goal
 

@@ -3,7 +3,7 @@ use Rattle.std.specs.BTreeMap.{get_by_text}
 use Rattle.std.proofs.lemmas.List.{length-map}
 use Rattle.tx_run.specs.LineNumbers.{number_of, numbers_in}
 use Rattle.tx_run.specs.Readers.{SortsBefore}
-use Rattle.tx_run.proofs.Keeping.{before_known, before_new}
+use Rattle.tx_run.proofs.ReaderStates.{before_known, before_new}
 use Rattle.tx_run.proofs.script.ScriptReader.enter.Goals as goal
 
 pub returns-in-Some-clause-sorted : goal.returns-in-Some-clause-sorted

@@ -3,7 +3,7 @@ use Rattle.std.specs.BTreeMap.{get_by_text}
 use Rattle.tx_types.specs.declared.key.Key.{Key}
 use Rattle.tx_run.specs.Readers.{SortsBefore}
 use Rattle.tx_run.specs.LineNumbers.{numbers_in}
-use Rattle.tx_run.proofs.Keeping.{before_first}
+use Rattle.tx_run.proofs.ReaderStates.{before_first}
 use Rattle.tx_run.proofs.script.ScriptReader.new.Goals as goal
 
 pub returns-clause-sorted : goal.returns-clause-sorted

@@ -3,7 +3,7 @@ use Rattle.std.specs.BTreeMap.{get_by_text}
 use Rattle.tx_steps.specs.Steps.{asked}
 use Rattle.tx_run.specs.LineNumbers.{numbers_in}
 use Rattle.tx_run.specs.ScriptLines.{is_seed}
-use Rattle.tx_run.proofs.Keeping.{before_none, bounds_step, seed_added, seed_by}
+use Rattle.tx_run.proofs.ReaderStates.{before_none, bounds_step, seed_added, seed_by}
 use Rattle.tx_run.proofs.script.ScriptReader.put.Goals as goal
 
 pub returns-in_ok-push-in-None-clause-sorted : goal.returns-in_ok-push-in-None-clause-sorted

@@ -4,7 +4,7 @@ use Rattle.tx_steps.specs.Lines.{bounds_in, data_of}
 use Rattle.tx_evidence.specs.Lines.{bounds_by}
 use Rattle.tx_run.specs.LineNumbers.{numbers_in}
 use Rattle.tx_run.specs.Readers.{SortsBefore}
-use Rattle.tx_run.proofs.Keeping.{before_open}
+use Rattle.tx_run.proofs.ReaderStates.{before_open}
 use Rattle.tx_run.proofs.script.ScriptReader.take.Goals as goal
 
 pub returns-then-branch-clause-sorted : goal.returns-then-branch-clause-sorted
@@ -24,5 +24,5 @@ returns-then-branch-clause-sorted g c =
     (map (λ seed. seed.number) seeds.items) n.script.bounds.items) (sym c.in_ok-opens.ensures.seeds)
     (before_open source number c.requires.some (get_by_text r.indexes) (numbers_in r.script.sessions.items)
     (map (λ seed. seed.number) r.script.seeds.items) r.script.bounds.items n.script.bounds.items c.args.text.now d
-    c.requires.line (rw c.in-Ok.is at c.in_ok-line.ensures) (sym c.in_ok-opens.ensures.said ∙ c.if-branch.true) bounds
-    c.requires.sorted)))
+    c.requires.line (rw c.in-Ok.is at c.in_ok-line.ensures.ok)
+    (sym c.in_ok-opens.ensures.said ∙ c.if-branch.true) bounds c.requires.sorted)))

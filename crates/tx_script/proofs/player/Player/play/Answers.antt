@@ -1,9 +1,9 @@
 use Rattle.std.proofs.Common.{◌≡◌, ◌+◌, ◌-◌, ◌<◌, ◌≤◌, inr, ℕ, suc, List, [], ◌∷◌, ◌++◌, length, refl, sym, subst, arith}
 use Rattle.serde_json.specs.Data.{Items}
 use Rattle.tx_reply.specs.Replies.{reply_words}
-use Rattle.tx_engine.specs.Slots.{own}
+use Rattle.tx_engine.specs.Slots.{own, engine_state}
 use Rattle.tx_script.specs.Players.{PlayerState, HasPlayed, IsPlayer, IsFault}
-use Rattle.tx_script.proofs.Players.{ready, goes_on, faults, stays, rests, plays_on, stays_on, rests_on, on_err_any}
+use Rattle.tx_script.proofs.Players.{ready, goes_on, faults, as_before, stays, rests, plays_on, stays_on, rests_on, on_err_any}
 use Rattle.tx_script.proofs.player.Player.play.Goals as goal
 
 pub play_line-requires : goal.play_line-requires
@@ -88,6 +88,20 @@ returns-in-Err-clause-stays g c =
     subst (λ (p : PlayerState). (lines : List (List ℕ)) (done : List (ℕ × Items)) → HasPlayed bounds lines done p
     → HasPlayed bounds lines done new) c.self.view_is
     (λ lines done has. stays bounds line old new tried lines done has c.in-Err.cause refl turned)
+
+pub returns-in-Err-clause-as_before : goal.returns-in-Err-clause-as_before
+returns-in-Err-clause-as_before g c =
+    let s = c.self.inside in
+    let bounds = g.J.JournalId.bounds in
+    let line = c.args.line.now in
+    let old : PlayerState = record { engine = s.engine; number = s.number; left = s.left } in
+    let new : PlayerState = record { engine = c.play_line.new.engine; number = s.number; left = s.left - 1 } in
+    let tried : s.left ≡ suc (s.left - 1) = omega (arith, c.if-self-eq0.false) in
+    let is : IsPlayer bounds old = subst (IsPlayer bounds) (sym c.self.view_is) c.requires in
+    let turned = rw c.in-Err.is at c.in_ok-reply.ensures.goes in
+    subst (λ (p : PlayerState). (new.number ≡ p.number) × (length new.engine.network.newest ≤ own new.engine
+    → engine_state new.engine ≡ engine_state p.engine)) c.self.view_is
+    (refl, as_before bounds line old new tried is.0 is.1 is.2 c.in-Err.cause turned)
 
 pub returns-in-Err-clause-faults : goal.returns-in-Err-clause-faults
 returns-in-Err-clause-faults g c =

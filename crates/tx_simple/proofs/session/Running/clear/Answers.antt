@@ -1,7 +1,7 @@
 use Rattle.std.proofs.Common.{subst}
 use Rattle.tx_core.specs.Histories.{Begins}
 use Rattle.tx_client.specs.Calls.{Seated}
-use Rattle.tx_simple.proofs.Going.{follows_more, goes_begins, goes_more}
+use Rattle.tx_simple.proofs.CallSequences.{follows_more, goes_begins, goes_more}
 use Rattle.tx_simple.proofs.session.Running.clear.Goals as goal
 
 pub invariant_of-self : goal.invariant_of-self

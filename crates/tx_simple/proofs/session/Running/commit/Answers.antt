@@ -1,6 +1,6 @@
 use Rattle.tx_transaction.specs.declared.state.Phase.TheVariants as phase
 use Rattle.tx_transaction.specs.Sessions.{due_commit}
-use Rattle.tx_simple.proofs.Going.{follows_due, follows_more}
+use Rattle.tx_simple.proofs.CallSequences.{follows_due, follows_more}
 use Rattle.tx_simple.proofs.session.Running.commit.Goals as goal
 
 pub invariant_of-self : goal.invariant_of-self

@@ -1,4 +1,4 @@
-use Rattle.tx_simple.proofs.Going.{follows_more}
+use Rattle.tx_simple.proofs.CallSequences.{follows_more}
 use Rattle.tx_simple.proofs.session.Running.draw.Goals as goal
 
 pub invariant_of-self : goal.invariant_of-self

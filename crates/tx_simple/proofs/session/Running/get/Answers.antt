@@ -1,8 +1,9 @@
 use Rattle.std.proofs.Common.{ap, subst, ◌∙◌}
 use Rattle.tx_core.specs.Histories.{Begins}
 use Rattle.tx_client.specs.Calls.{Seated}
-use Rattle.tx_simple.proofs.Going.{follows_get, follows_more, goes_begins}
-use Rattle.tx_simple.proofs.Reading.{if_get_finds}
+use Rattle.tx_simple.proofs.CallSequences.{follows_get, follows_more, goes_begins}
+use Rattle.tx_simple.proofs.ReadReplies.{get_answered}
+use Rattle.tx_simple.proofs.ReadAnswers.{if_get_finds}
 use Rattle.tx_simple.proofs.session.Running.get.Goals as goal
 
 pub invariant_of-self : goal.invariant_of-self
@@ -33,3 +34,9 @@ returns-clause-more g c =
     c.get.ensures in
     subst (λ (s : Seated). Begins s.seat.events c.get.new.self.seat.events) c.self.view_is
     (goes_begins old.seat c.get.new.self.seat both.0.seat)
+
+pub returns-clause-may : goal.returns-clause-may
+returns-clause-may g c =
+    get_answered g.J.JournalId.bounds g.S.Sender.fits g.S.Sender.sends g.S.Sender.keys_between c.self.invariant.0
+    g.B.Begun.session c.self.inside.session c.get.new.self c.self.invariant.1.seat c.self.invariant.1.start _ _
+    c.args.key.now c.get.result c.get.ensures

@@ -1,4 +1,4 @@
-use Rattle.tx_simple.proofs.Going.{goes_same, follows_same}
+use Rattle.tx_simple.proofs.CallSequences.{goes_same, follows_same}
 use Rattle.tx_simple.proofs.session.Running.new.Goals as goal
 
 -- it sets out from itself

@@ -2,8 +2,9 @@ use Rattle.std.proofs.Common.{ap, subst, ◌∙◌}
 use Rattle.tx_types.specs.Keys.{AreRising}
 use Rattle.tx_core.specs.Histories.{Begins}
 use Rattle.tx_client.specs.Calls.{Seated}
-use Rattle.tx_simple.proofs.Going.{follows_more, follows_scan, goes_begins}
-use Rattle.tx_simple.proofs.Reading.{if_scan_finds, if_scan_tells}
+use Rattle.tx_simple.proofs.CallSequences.{follows_more, follows_scan, goes_begins}
+use Rattle.tx_simple.proofs.ReadReplies.{scan_answered}
+use Rattle.tx_simple.proofs.ReadAnswers.{if_scan_finds, if_scan_tells}
 use Rattle.tx_simple.proofs.session.Running.scan.Goals as goal
 
 pub invariant_of-self : goal.invariant_of-self
@@ -46,3 +47,9 @@ returns-clause-tells g c =
     (subst AreRising (c.self.invariant.0.between _) c.bounds-bounds.ensures.rising) c.show.ensures.run c.args.from.now
     c.args.to.now c.args.limit
     c.scan-result.result c.scan-result.ensures
+
+pub returns-clause-may : goal.returns-clause-may
+returns-clause-may g c =
+    scan_answered g.J.JournalId.bounds g.S.Sender.fits g.S.Sender.sends g.S.Sender.keys_between c.self.invariant.0
+    g.B.Begun.session c.self.inside.session c.scan-result.new.self c.self.invariant.1.seat c.self.invariant.1.start _ _
+    c.args.from.now c.args.to.now c.args.limit c.scan-result.result c.scan-result.ensures

@@ -7,8 +7,8 @@ use Rattle.tx_plan.proofs.KeyOrder.{ge_false, ge_true, le_itself, lt_le}
 use Rattle.tx_core.proofs.seats.Beginnings.{begins_all, begins_more}
 use Rattle.tx_simple.specs.Ranges.{IsSplit}
 use Rattle.tx_simple.specs.Reads.{SeesOn}
-use Rattle.tx_simple.proofs.Paging.{AreSoFar, all_so_far, later_so_far, more_so_far, none_so_far}
-use Rattle.tx_simple.proofs.Ranging.{sees_later}
+use Rattle.tx_simple.proofs.Pages.{AreSoFar, all_so_far, later_so_far, more_so_far, none_so_far}
+use Rattle.tx_simple.proofs.Ranges.{sees_later}
 use Rattle.tx_simple.proofs.tx.Lent.pages.Goals as goal
 
 pub returns-in_err-next-clause-more : goal.returns-in_err-next-clause-more
@@ -64,7 +64,8 @@ loop-preserved g c =
     subst (λ (k : Key). IsSplit c.in_ok-page.page k c.split_page-more.result.0.items c.split_page-more.result.1)
     c.in_ok-clone.ensures.ok c.split_page-more.ensures in
     let more = more_so_far told from to c.loop.next to c.split_page-more.result.1 c.loop.rows.items c.in_ok-page.page
-    c.split_page-more.result.0.items so_far (lt_le c.loop.next to below) (le_itself to) c.in_ok-page.ensures.tells split in (
+    c.split_page-more.result.0.items so_far (lt_le c.loop.next to below) (le_itself to) c.in_ok-page.ensures.tells
+    split in (
       c.page.ensures.same ∙ c.loop.invariant.0,
       begins_more c.args.self.now.running.seat.events before events c.loop.invariant.1 c.page.ensures.more,
       subst (λ (rows : List KeyValue). AreSoFar told from to c.split_page-more.result.1 rows)

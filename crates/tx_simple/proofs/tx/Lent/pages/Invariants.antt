@@ -1,7 +1,7 @@
 use Rattle.std.proofs.Common.{◌≡◌}
 use Rattle.tx_core.specs.Histories.{Begins}
 use Rattle.tx_simple.specs.Reads.{SeesOn}
-use Rattle.tx_simple.proofs.Paging.{AreSoFar}
+use Rattle.tx_simple.proofs.Pages.{AreSoFar}
 use Rattle.tx_simple.proofs.tx.Lent.pages.Given as goal
 
 -- nothing is entered, the seat knows what it knew, and the rows so far are those up to where the

@@ -7,7 +7,7 @@ use Rattle.tx_transaction.specs.Buffers.{Entries, buffered}
 use Rattle.tx_laws.specs.Rows.{AreRowsOf}
 use Rattle.tx_simple.specs.Ranges.{is_in_range}
 use Rattle.tx_simple.specs.Reads.{Beneath, Finds}
-use Rattle.tx_simple.proofs.Ranging.{above_top, with_top}
+use Rattle.tx_simple.proofs.Ranges.{above_top, with_top}
 use Rattle.tx_simple.proofs.tx.Lent.rows_from.Goals as goal
 
 pub returns-in_err-top-clause-more : goal.returns-in_err-top-clause-more
@@ -36,16 +36,19 @@ returns g c =
     let start = g.B.Begun.session.state.start in
     let top = c.in_ok-top.top in
     let upto : IsTrue (key_le c.args.from.now top) = not_lt top c.args.from.now (sym c.lt.ensures ∙ c.if-lt.false) in
-    let found = subst (λ (es : Entries). Finds (buffered es top) events start top c.in_ok-found.found) c.pages.ensures.same
+    let found = subst (λ (es : Entries). Finds (buffered es top) events start top c.in_ok-found.found)
+    c.pages.ensures.same
     c.in_ok-found.ensures.finds in
     record {
       same = c.find.ensures.same ∙ c.pages.ensures.same;
       more = begins_more c.args.self.now.running.seat.events c.pages.new.self.running.seat.events events
           c.pages.ensures.more c.find.ensures.more;
       finds = subst
-          (λ (rows : List KeyValue). AreRowsOf (is_in_range (Some c.args.from.now) None) (Beneath entries events start) rows)
+          (λ (rows : List KeyValue). AreRowsOf (is_in_range (Some c.args.from.now) None)
+          (Beneath entries events start) rows)
           (sym c.in_ok-add_last.ensures.ok)
           (with_top g.J.JournalId.bounds entries events c.know_run.ensures start c.pages.new.self.running.seat.events
           c.find.ensures.more c.args.from.now top c.in_ok-top.ensures.ok c.in_ok-rows.rows.items
           c.in_ok-rows.ensures.finds upto c.in_ok-found.found found);
+      err = tt;
     }

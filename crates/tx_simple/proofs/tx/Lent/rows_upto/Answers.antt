@@ -1,4 +1,4 @@
-use Rattle.tx_simple.proofs.Ranging.{upto_key}
+use Rattle.tx_simple.proofs.Ranges.{upto_key}
 use Rattle.tx_simple.proofs.tx.Lent.rows_upto.Goals as goal
 
 pub returns-clause-finds : goal.returns-clause-finds

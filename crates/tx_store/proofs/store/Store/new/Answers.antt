@@ -1,7 +1,7 @@
 use Rattle.std.proofs.Common.{sym, ap, subst, length, arith}
 use Rattle.std.specs.Prelude.{All}
 use Rattle.tx_region.specs.KeyFronts.{AreFronts}
-use Rattle.tx_store.proofs.Making.{IsRegionSeat, HoldNothing, first_of, rest_of, last_of, front_of, region_seats}
+use Rattle.tx_store.proofs.DealtSeats.{IsRegionSeat, HoldNothing, first_of, rest_of, last_of, front_of, region_seats}
 use Rattle.tx_store.proofs.store.Store.new.Goals as goal
 
 pub loop-seat-init : goal.loop-seat-init

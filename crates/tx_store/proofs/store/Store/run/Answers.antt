@@ -1,4 +1,4 @@
-use Rattle.tx_store.proofs.Answering.{is_answered}
+use Rattle.tx_store.proofs.Replies.{is_answered}
 use Rattle.tx_store.proofs.store.Store.run.Goals as goal
 
 pub returns-then-is_of_key-clause-answered : goal.returns-then-is_of_key-clause-answered

@@ -1,6 +1,6 @@
 use Rattle.tx_core.specs.declared.event.Event.TheVariants.{Declared}
 use Rattle.tx_trace.specs.Logs.{LogGoesOn, Enters}
-use Rattle.tx_trace.proofs.Declaring.{declares}
+use Rattle.tx_trace.proofs.Declarations.{declares}
 use Rattle.tx_trace.proofs.Requests.{on_ok}
 use Rattle.tx_trace.proofs.log.TraceLog.declared.Goals as goal
 

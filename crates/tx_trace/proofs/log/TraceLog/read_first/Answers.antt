@@ -6,7 +6,7 @@ use Rattle.tx_machine.specs.declared.step.Step.TheVariants as step
 use Rattle.tx_trace.specs.declared.log.TraceLog.{TraceLog}
 use Rattle.tx_trace.specs.Logs.{steps_of, checked_in, by_start, Stays}
 use Rattle.tx_trace.proofs.Steps.{one_more}
-use Rattle.tx_trace.proofs.Marking.{at_pair, was_there, was_new, false_of, on_err_is, stays_same}
+use Rattle.tx_trace.proofs.CheckedKeys.{at_pair, was_there, was_new, false_of, on_err_is, stays_same}
 use Rattle.tx_trace.proofs.log.TraceLog.read_first.Goals as goal
 
 pub returns-in_err-first-clause-same : goal.returns-in_err-first-clause-same

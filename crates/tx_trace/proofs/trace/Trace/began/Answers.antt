@@ -1,5 +1,5 @@
 use Rattle.tx_core.specs.declared.event.Event.TheVariants.{Began}
-use Rattle.tx_trace.proofs.Noting.{adds_view, stays_view}
+use Rattle.tx_trace.proofs.Histories.{adds_view, stays_view}
 use Rattle.tx_trace.proofs.trace.Trace.began.Goals as goal
 
 pub returns-clause-ok : goal.returns-clause-ok

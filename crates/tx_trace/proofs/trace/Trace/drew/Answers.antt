@@ -1,4 +1,4 @@
-use Rattle.tx_trace.proofs.Noting.{drawn_view, stays_view}
+use Rattle.tx_trace.proofs.Histories.{drawn_view, stays_view}
 use Rattle.tx_trace.proofs.trace.Trace.drew.Goals as goal
 
 pub returns-clause-ok : goal.returns-clause-ok

@@ -1,5 +1,5 @@
 use Rattle.std.proofs.Common.{[]}
-use Rattle.tx_trace.proofs.Noting.{outward}
+use Rattle.tx_trace.proofs.Histories.{outward}
 use Rattle.tx_trace.proofs.trace.Trace.new.Goals as goal
 
 pub returns : goal.returns

@@ -3,7 +3,7 @@ use Rattle.tx_core.specs.declared.event.Event.{Event}
 use Rattle.tx_core.specs.declared.event.Event.TheVariants.{Drawn, Took}
 use Rattle.tx_core.specs.declared.event.Taken.{Taken}
 use Rattle.tx_trace.specs.Traces.{Adds}
-use Rattle.tx_trace.proofs.Noting.{stopped_adds}
+use Rattle.tx_trace.proofs.Histories.{stopped_adds}
 use Rattle.tx_trace.proofs.Requests.{on_ok}
 use Rattle.tx_trace.proofs.trace.Trace.push.Goals as goal
 

@@ -1,4 +1,4 @@
-use Rattle.tx_trace.proofs.Noting.{taken_view, stays_view}
+use Rattle.tx_trace.proofs.Histories.{taken_view, stays_view}
 use Rattle.tx_trace.proofs.trace.Trace.took.Goals as goal
 
 pub returns-clause-ok : goal.returns-clause-ok

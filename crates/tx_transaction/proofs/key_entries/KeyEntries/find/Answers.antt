@@ -1,6 +1,6 @@
 use Rattle.std.proofs.Common.{◌∙◌, ap, option_map}
 use Rattle.tx_transaction.specs.declared.state.BufferEntry.{BufferEntry}
-use Rattle.tx_transaction.proofs.Finding.{found}
+use Rattle.tx_transaction.proofs.Lookups.{found}
 use Rattle.tx_transaction.proofs.Parts.{IsAbsent, found_at, absent_at, find_few, find_behind, nothing_there}
 use Rattle.tx_transaction.proofs.key_entries.KeyEntries.find.Goals as goal
 

@@ -1,5 +1,5 @@
 use Rattle.std.proofs.Common.{◌∙◌}
-use Rattle.tx_transfer.proofs.Collecting.{due_collects}
+use Rattle.tx_transfer.proofs.Collections.{due_collects}
 use Rattle.tx_transfer.proofs.collector.Collector.collect.Goals as goal
 
 pub returns : goal.returns

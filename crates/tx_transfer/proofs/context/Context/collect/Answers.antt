@@ -1,7 +1,7 @@
 use Rattle.std.proofs.Common.{sym, ap, ◌∙◌}
 use Rattle.tx_resolve.specs.Collection.{gc_walk}
-use Rattle.tx_transfer.specs.Collecting.{records_of}
-use Rattle.tx_transfer.proofs.Sending.{sent_over}
+use Rattle.tx_transfer.specs.Collections.{records_of}
+use Rattle.tx_transfer.proofs.Sends.{sent_over}
 use Rattle.tx_transfer.proofs.context.Context.collect.Goals as goal
 use Rattle.tx_transfer.proofs.context.Context.collect.Goals.{in-Ok, in-Err}
 

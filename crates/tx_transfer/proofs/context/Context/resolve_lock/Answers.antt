@@ -1,5 +1,5 @@
-use Rattle.tx_transfer.proofs.Resolving.{resolved_over}
-use Rattle.tx_transfer.proofs.Telling.{told_after}
+use Rattle.tx_transfer.proofs.Resolutions.{resolved_over}
+use Rattle.tx_transfer.proofs.LearntLocks.{told_after}
 use Rattle.tx_transfer.proofs.context.Context.resolve_lock.Goals as goal
 
 pub resolve-requires-clause-told : goal.resolve-requires-clause-told

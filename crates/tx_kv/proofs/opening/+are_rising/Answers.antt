@@ -1,5 +1,0 @@
-use Rattle.tx_kv.proofs.Rising.{few_rise}
-use Rattle.tx_kv.proofs.opening.+are_rising.Goals as goal
-
-pub returns-in-empty : goal.returns-in-empty
-returns-in-empty t c = few_rise c.args.keys.now c.in-empty.len_below
