@@ -1,5 +1,5 @@
 -- What a plan gives, filled in.
-use Rattle.std.specs.Prelude.{ℕ, max, Bool, true, false, Option, Some, None}
+use Rattle.std.specs.Prelude.{ℕ, max, Option, Some, None}
 use Rattle.tx_types.specs.declared.lock.LockInfo.{LockInfo}
 use Rattle.tx_plan.specs.declared.answer.Answer.{Answer}
 use Rattle.tx_plan.specs.declared.answer.Answer.TheVariants as answer
@@ -18,12 +18,6 @@ answer_with (Some info) KeyIsLocked = answer.KeyIsLocked info
 answer_with (Some info) (Locked min) = answer.Locked (info_with_minimum info min)
 answer_with None KeyIsLocked = answer.TxnLockNotFound
 answer_with None (Locked min) = answer.TxnLockNotFound
-
--- whether an answer names the lock on the key
-abbrev pub names_lock : PlannedAnswer → Bool
-names_lock (Given a) = false
-names_lock KeyIsLocked = true
-names_lock (Locked min) = true
 
 -- the greatest timestamp read, after a plan
 abbrev pub read_upto : Option ℕ → ℕ → ℕ

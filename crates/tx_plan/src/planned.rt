@@ -1,6 +1,6 @@
 //! What a plan gives: the answer, the change on its key, and the timestamp that was read.
 ghost use Rattle.std.specs.Prelude.{◌≡◌, None};
-ghost use Rattle.tx_plan.specs.Plans.{answer_with, names_lock};
+ghost use Rattle.tx_plan.specs.Plans.answer_with;
 
 use crate::answer::Answer;
 use crate::key_change::KeyChange;
@@ -19,16 +19,6 @@ pub enum PlannedAnswer {
 }
 
 impl PlannedAnswer {
-    /// Whether the answer names the lock on the key.
-    pub fn names_lock(&self) -> bool
-        ensures { result ≡ names_lock self.now }
-    {
-        match self {
-            PlannedAnswer::Given(_) => false,
-            PlannedAnswer::KeyIsLocked | PlannedAnswer::Locked { .. } => true,
-        }
-    }
-
     /// The whole answer, by what is told of the lock that was on the key before the change. An
     /// answer that names no lock needs none. `TxnLockNotFound` where there is no lock to name: no
     /// plan names one that is not there.
