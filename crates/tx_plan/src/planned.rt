@@ -1,6 +1,6 @@
 //! What a plan gives: the answer, the change on its key, and the timestamp that was read.
 ghost use Rattle.std.specs.Prelude.{◌≡◌, None};
-ghost use Rattle.tx_plan.specs.Plans.answer_with;
+ghost use Rattle.tx_plan.specs.Plans.{answer_with};
 
 use crate::answer::Answer;
 use crate::key_change::KeyChange;
