@@ -3,7 +3,8 @@
 //
 //	badger THREADS ACCOUNTS < TRANSFERS
 //
-// A line of TRANSFERS is two numbers of accounts. It prints transfers, tries refused, seconds, total.
+// A line of TRANSFERS is two numbers of accounts. It prints transfers, tries refused, seconds,
+// total.
 package main
 
 import (

@@ -1,7 +1,8 @@
-// Transfers between accounts of RocksDB's OptimisticTransactionDB: reads of both balances, writes of
-// both, again after a conflict. No log is written ahead, so nothing is kept but in memory.
+// Transfers between accounts of RocksDB's OptimisticTransactionDB: reads of both balances, writes
+// of both, again after a conflict. No log is written ahead, so nothing is kept but in memory.
 //     rocks FOLDER THREADS ACCOUNTS < TRANSFERS
-// A line of TRANSFERS is two numbers of accounts. It prints transfers, tries refused, seconds, total.
+// A line of TRANSFERS is two numbers of accounts. It prints transfers, tries refused, seconds,
+// total.
 #include <rocksdb/db.h>
 #include <rocksdb/options.h>
 #include <rocksdb/utilities/optimistic_transaction_db.h>
