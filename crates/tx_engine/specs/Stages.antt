@@ -1,29 +1,8 @@
--- How far a session is: what is so of it where a step may not be its next.
-use Rattle.std.specs.Prelude.{List, ℕ, Option, Some, None, option_map, is_some, if◌then◌else◌}
-use Rattle.tx_types.specs.declared.mutation.Fate.{Fate}
-use Rattle.tx_types.specs.declared.mutation.Fate.TheVariants as fate
-use Rattle.tx_transaction.specs.declared.state.Phase.TheVariants as phase
-use Rattle.tx_transaction.specs.Buffers.{first_index, has_two_phase_lock, not_empty}
-use Rattle.tx_transaction.specs.Sessions.{SessionState, is_declared}
-use Rattle.tx_engine.specs.declared.stage.SessionStage.{SessionStage}
-use Rattle.tx_engine.specs.declared.stage.SessionStage.TheVariants.{Open, Empty, Locking, Promised, Locked, Drawn, Committed, Aborted}
+-- How far the session of a name is.
+use Rattle.std.specs.Prelude.{List, ℕ, Option, option_map}
+use Rattle.tx_ops.specs.Stages.{stage_of}
+use Rattle.tx_ops.specs.declared.stage.SessionStage.{SessionStage}
 use Rattle.tx_engine.specs.Semantics.{EngineState, live_at}
-
--- how far it is where its keys are declared and nothing is decided
-abbrev pub undecided_stage : SessionState → SessionStage
-undecided_stage s = if is_some s.drawn then Drawn
-    else (if is_some (first_index phase.Prewrite s.buffer) then Locking
-    else (if has_two_phase_lock s.buffer then Locked else Promised))
-
--- how far it is where its keys are declared, by what it knows of its fate
-abbrev pub stage_by : SessionState → Option Fate → SessionStage
-stage_by s None = undecided_stage s
-stage_by s (Some (fate.Committed c)) = Committed
-stage_by s (Some fate.Aborted) = Aborted
-
--- how far it is
-abbrev pub stage_of : SessionState → SessionStage
-stage_of s = if is_declared s then (if not_empty s.buffer then stage_by s s.decision else Empty) else Open
 
 -- how far the live session of a name is
 abbrev pub stage_at : EngineState → List ℕ → Option SessionStage

@@ -4,12 +4,17 @@ ghost use Rattle.std.specs.Prelude.{◌≡◌, ◌<◌, ◌+◌, [], ◌∷◌, 
 ghost use Rattle.tx_core.specs.declared.event.Event.TheVariants as events;
 ghost use Rattle.tx_core.specs.Histories.{last};
 ghost use Rattle.tx_transaction.specs.Sessions.{begun, can_draw, declaration, exceeds, finish_of, is_declared};
+ghost use Rattle.tx_journal.specs.Known.{Known};
+ghost use Rattle.tx_client.specs.Calls.{Seated};
 ghost use Rattle.tx_plan.specs.declared.body.Body.TheVariants as body;
 ghost use Rattle.tx_network.specs.Networks.{network_state, with_events, Foresees, Met, NotesDeclared};
+ghost use Rattle.tx_engine.specs.declared.slots.SessionSlot.TheVariants as session_slot;
 ghost use Rattle.tx_engine.specs.Slots.{Acts, Serves, NotesPlaced};
 ghost use Rattle.tx_engine.specs.Semantics.{declared_in, placed_in};
 
+use crate::slots::SessionSlot;
 use std::alloc::Global;
+use std::mem::replace;
 use tx_cells::Families;
 use tx_client::{Miss, Session, Terms, ask};
 use tx_core::{Answer, Body, Declaration, Get, Outcome, Starts};
@@ -155,31 +160,40 @@ pub(crate) fn draw_at<J: JournalId, F: Families>(
     commit
 }
 
-/// A session answers its outcome, where it has one. Where it has none, it comes back.
-pub(crate) fn finish_at<J: JournalId, F: Families>(
-    mut session: Session<J>,
+/// The live session of a slot answers its outcome, where it has one, and leaves a free seat there.
+/// It is moved but once, and where it has no outcome not at all.
+pub(crate) fn finish_in<J: JournalId, F: Families>(
+    slot: &mut SessionSlot<Seat<J>, Session<J>>,
     network: &mut Network<J, F>,
-) -> Result<(Outcome, Seat<J>), Session<J>>
-    ensures ended { IfOk result (λ r. (finish_of session.state ≡ Some r.0)
-        × Acts session.seat r.1 network.old network.new (network_state network.new
-        ≡ with_events (network_state network.old) (events.Answered session.state.start r.0 ∷ network.old.newest))) }
-    ensures open_yet { IfErr result (λ s. (finish_of session.state ≡ None) × (s.state ≡ session.state)
-        × Acts session.seat s.seat network.old network.new (network_state network.new
-        ≡ network_state network.old)) }
+) -> Option<Outcome>
+    requires live { (s : Seated) × (slot.old ≡ session_slot.Live s) }
+    ensures ended { IfSome result (λ o. (s : Seated) × (seat : Known) × (slot.old ≡ session_slot.Live s)
+        × (slot.new ≡ session_slot.Free seat) × (finish_of s.state ≡ Some o)
+        × Acts s.seat seat network.old network.new (network_state network.new
+        ≡ with_events (network_state network.old) (events.Answered s.state.start o ∷ network.old.newest))) }
+    ensures open_yet { IfNone result ((s t : Seated) × (slot.old ≡ session_slot.Live s)
+        × (slot.new ≡ session_slot.Live t) × (finish_of s.state ≡ None) × (t.state ≡ s.state)
+        × Acts s.seat t.seat network.old network.new (network_state network.new ≡ network_state network.old)) }
 {
+    let SessionSlot::Live(session) = slot else {
+        unreachable!()
+    };
     session.learn_told(network.newest());
-    let start = session.start();
-    match session.finish() {
-        Ok((outcome, mut seat)) => {
-            network.set_newest(seat.tell());
-            network.answered(start, &outcome);
-            Ok((outcome, seat))
-        }
-        Err(mut session) => {
-            network.set_newest(session.tell());
-            Err(session)
-        }
+    if session.transaction().outcome().is_none() {
+        network.set_newest(session.tell());
+        return None;
     }
+    let SessionSlot::Live(session) = replace(slot, SessionSlot::Lent) else {
+        unreachable!()
+    };
+    let start = session.start();
+    let Ok((outcome, mut seat)) = session.finish() else {
+        unreachable!()
+    };
+    network.set_newest(seat.tell());
+    network.answered(start, &outcome);
+    *slot = SessionSlot::Free(seat);
+    Some(outcome)
 }
 
 /// The seat for what no session does draws so many ticks. Spent, it draws none.

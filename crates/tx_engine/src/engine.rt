@@ -9,11 +9,10 @@ ghost use Rattle.tx_steps.specs.Steps.{acted, asked, called, delivered};
 ghost use Rattle.tx_steps.specs.declared.op.Op.TheVariants as ops;
 ghost use Rattle.tx_steps.specs.declared.step.Step.TheVariants as steps;
 
-use crate::acts::{begin_at, finish_at, read_at, stop_at, tick_at};
+use crate::acts::{begin_at, finish_in, read_at, stop_at, tick_at};
 use crate::operations::{deliver, edit_in, is_key, send_in, versions};
 use crate::resolver::{Direct, collected_as, gc_at, resolve_at};
-use crate::slots::{SessionSlot, enter, first_free, lend, slot_at, swap_slot};
-use crate::stage::SessionStage;
+use crate::slots::{SessionSlot, enter, first_free, lend, live_slot, slot_at, swap_slot};
 use std::alloc::Global;
 use std::collections::BTreeMap;
 use std::marker::Model;
@@ -21,7 +20,7 @@ use tx_cells::Families;
 use tx_client::Session;
 use tx_journal::{JournalId, Seat, Told};
 use tx_network::Network;
-use tx_ops::reply_to;
+use tx_ops::{SessionStage, reply_to};
 use tx_reply::ScriptReply;
 use tx_steps::{Call, Delivery, Op, Step};
 use tx_trace::Trace;
@@ -161,20 +160,14 @@ impl<J: JournalId, F: Families> Engine<J, F> {
         ensures goes { Goes J.bounds self.old self.new
             (Turned J.bounds (steps.Act name.now ops.Finish) result self.old self.new) }
     {
-        let Some((k, session)) = lend(&self.names, &mut self.slots, name) else {
+        let Some(k) = live_slot(&self.names, &self.slots, name) else {
             return Err(Cause::Name);
         };
-        match finish_at(session, &mut self.direct.network) {
-            Ok((outcome, seat)) => {
-                swap_slot(&mut self.slots, k, SessionSlot::Free(seat));
-                self.names.remove(name);
-                Ok(ScriptReply::Ended(outcome))
-            }
-            Err(session) => {
-                swap_slot(&mut self.slots, k, SessionSlot::Live(session));
-                Err(Cause::Order)
-            }
-        }
+        let Some(outcome) = finish_in(&mut self.slots[k], &mut self.direct.network) else {
+            return Err(Cause::Order);
+        };
+        self.names.remove(name);
+        Ok(ScriptReply::Ended(outcome))
     }
 
     // The live session of a name stops, and is gone.

@@ -9,9 +9,7 @@ mod new_engine;
 mod operations;
 mod resolver;
 mod slots;
-mod stage;
 
 pub use engine::Engine;
 pub use new_engine::engine_of;
 pub use slots::SessionSlot;
-pub use stage::SessionStage;

@@ -3,6 +3,7 @@ ghost use Rattle.std.specs.Prelude.{◌≡◌, ◌<◌, ℕ, List, length, map, 
 ghost use Rattle.std.specs.Map.{update};
 ghost use Rattle.std.specs.BTreeMap.{get_by_text};
 ghost use Rattle.tx_journal.specs.Known.{Known};
+ghost use Rattle.tx_client.specs.Calls.{Seated};
 ghost use Rattle.tx_engine.specs.declared.slots.SessionSlot.TheVariants as session_slot;
 ghost use Rattle.tx_engine.specs.Semantics.{first_free as first_of};
 ghost use Rattle.tx_engine.specs.Slots.{slot_of, NamesNone};
@@ -64,6 +65,25 @@ pub(crate) fn slot_at<J: JournalId>(
         return None;
     }
     Some(k)
+}
+
+/// The slot of the live session of a name, where it is one.
+#[inline(always)]
+pub(crate) fn live_slot<J: JournalId>(
+    names: &BTreeMap<String, usize>,
+    slots: &[SessionSlot<Seat<J>, Session<J>>],
+    name: &str,
+) -> Option<usize>
+    ensures named { IfSome result (λ k. get_by_text names.now name.now ≡ Some k) }
+    ensures live { IfSome result (λ k. (k < length slots.now)
+        × (s : Seated) × (slice_get slots.now k ≡ Some (session_slot.Live s))) }
+    ensures none { IfNone result (NamesNone J.bounds names.now slots.now name.now) }
+{
+    let k = slot_at(names, slots, name)?;
+    match slots[k] {
+        SessionSlot::Live(_) => Some(k),
+        _ => None,
+    }
 }
 
 /// Enters the slot of a name.

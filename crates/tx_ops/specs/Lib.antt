@@ -6,3 +6,5 @@ pub mod Calls
 pub mod Edits
 -- What is refused of one before memory is asked for.
 pub mod Refusals
+-- How far a session is.
+pub mod Stages

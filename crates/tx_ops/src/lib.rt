@@ -7,6 +7,8 @@ mod acts;
 mod calls;
 mod edits;
 mod entries;
+mod stage;
 
 pub use acts::act;
 pub use calls::{reply_to, send};
+pub use stage::SessionStage;

@@ -30,8 +30,10 @@ use tx_client::Session;
 use tx_core::Answer;
 use tx_journal::{JournalId, Seat};
 use tx_latch::Slot;
+use tx_ops::SessionStage;
 use tx_reply::ScriptReply;
 use tx_sched::{Job, Turn};
+use tx_steps::{Call, Op, Step};
 use tx_transfer::{
     Collector, Context, PlainReply, Source, TransferProgress, TransferState, slots_of,
 };
@@ -52,6 +54,8 @@ pub(crate) struct ScriptJob<J: JournalId, L: Source, F: Families + Drop, R: Wait
     met: Vec<Slot>,
     collector: Collector,
     faulted: bool,
+    /// How far the session was, with the number of its line, where that was out of order.
+    stage: Option<(u64, SessionStage)>,
 }
 
 impl<J: JournalId, L: Source, F: Families + Drop, R: Wait + Drop> Model for ScriptJob<J, L, F, R> {
@@ -110,6 +114,7 @@ impl<J: JournalId, L: Source, F: Families + Drop, R: Wait + Drop> ScriptJob<J, L
             met: Vec::new(alloc),
             collector,
             faulted: false,
+            stage: None,
         })
     }
 
@@ -178,6 +183,25 @@ impl<J: JournalId, L: Source, F: Families + Drop, R: Wait + Drop> ScriptJob<J, L
         self.report(number, plain);
     }
 
+    // Where a line is out of order that draws, commits or aborts, notes how far the session is.
+    fn note_stage(
+        &mut self,
+        number: u64,
+        session: &Session<J>,
+        step: &Step<&str>,
+        answer: &Result<PlainReply, Cause>,
+    )
+        ensures { self.new ≡ self.old }
+    {
+        let is_ending = matches!(
+            step,
+            Step::Act(_, Op::Draw) | Step::Send(_, Call::Commit | Call::Abort, _)
+        );
+        if let (true, Err(Cause::Order)) = (is_ending, answer) {
+            self.stage = Some((number, SessionStage::of(session.transaction())));
+        }
+    }
+
     // A fault of the script ends the session.
     fn fail(&mut self, number: u64, cause: Cause)
         requires { MayAnswer self.old }
@@ -229,6 +253,7 @@ impl<J: JournalId, L: Source, F: Families + Drop, R: Wait + Drop> ScriptJob<J, L
             number: self.number,
             log,
             faulted: self.faulted,
+            stage: self.stage,
             collected: self.collector.dropped(),
             refusals: self.context.refusals(),
         }

@@ -25,4 +25,5 @@ pub use reply::{LineAnswer, LineReply};
 pub use run::run_script;
 pub use settings::Settings;
 pub use tx_cells::{Makes, Plain};
+pub use tx_ops::SessionStage;
 pub use tx_transfer::{PlainReply, Refusals};

@@ -1,7 +1,9 @@
 //! What comes of a session of a run.
 use crate::log::RunLog;
+use std::alloc::Global;
 use std::marker::Model;
 use tx_journal::JournalId;
+use tx_ops::SessionStage;
 use tx_transfer::{Refusals, Source};
 
 /// What came of a session's lines. Contracts see its number, its log and whether a fault of the
@@ -12,6 +14,8 @@ pub(crate) struct JobOutput<J: JournalId, L: Source> {
     pub log: RunLog<J, L>,
     /// Whether a fault of the script ended it.
     pub faulted: bool,
+    /// How far it was, with the number of its last line, where that was out of order.
+    pub stage: Option<(u64, SessionStage)>,
     /// How many write records it collected.
     pub collected: u64,
     /// What stood in its way.
@@ -42,4 +46,19 @@ pub(crate) fn count_refusals<J: JournalId, L: Source>(outputs: &[JobOutput<J, L>
         refusals = refusals.and(output.refusals);
     }
     refusals
+}
+
+/// How far sessions were whose last line was out of order, each with the number of that line. One
+/// for which there is no memory is left out.
+pub(crate) fn stages_of<J: JournalId, L: Source>(
+    alloc: Global,
+    outputs: &[JobOutput<J, L>],
+) -> Vec<(u64, SessionStage)> {
+    let mut stages = Vec::new(alloc);
+    for output in outputs {
+        if let Some(stage) = output.stage {
+            let _ = stages.push(stage);
+        }
+    }
+    stages
 }

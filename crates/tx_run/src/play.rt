@@ -12,7 +12,7 @@ ghost use Rattle.tx_run.specs.Tells.{AreOwn, OpensWith, TellsLine};
 ghost use Rattle.tx_run.specs.Totals.{TellsTotal, seen_in};
 ghost use Rattle.tx_core.specs.Histories.{History, Begins};
 
-use crate::output::{JobOutput, count_collected, count_refusals};
+use crate::output::{JobOutput, count_collected, count_refusals, stages_of};
 use crate::replies::Replies;
 use crate::reply::{LineAnswer, LineReply};
 use crate::script::Script;
@@ -26,6 +26,7 @@ use std::sync::{Arc, Wait};
 use std::thread::Threads;
 use tx_cells::{Families, Makes, make_families};
 use tx_journal::{JournalId, Opened, Seat, Unnamed};
+use tx_ops::SessionStage;
 use tx_sched::Gate;
 use tx_store::Store;
 use tx_text::Broken;
@@ -87,6 +88,9 @@ pub struct RunResult {
     pub replies: Replies,
     /// Whether a fault of the script ended a session.
     pub faulted: bool,
+    /// How far the sessions were whose last line was out of order, each with the number of that line.
+    /// One for which there was no memory is left out.
+    pub stages: Vec<(u64, SessionStage)>,
     /// How many write records were collected meanwhile, by collections that were not refused.
     pub collected: u64,
     /// What stood in the way of its sessions' requests.
@@ -184,12 +188,14 @@ fn close<J: JournalId, L: Source, F: Families + Drop, R: Wait + Drop>(
 {
     let collected = count_collected(outputs.as_slice());
     let refusals = count_refusals(outputs.as_slice());
+    let stages = stages_of(context.alloc, outputs.as_slice());
     let faulted = gather(outputs, &mut seat, &mut replies)?;
     let (total, mut seat) = sum_up::<J, L, F, R>(seat, context, &replies)?;
     let told = seat.tell();
     Ok(RunResult {
         replies,
         faulted,
+        stages,
         collected,
         refusals,
         total,

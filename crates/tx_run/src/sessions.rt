@@ -115,6 +115,7 @@ fn join<J: JournalId, L: Source>(
         number: _,
         log,
         faulted,
+        stage: _,
         collected: _,
         refusals: _,
     } = output;

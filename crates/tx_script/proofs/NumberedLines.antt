@@ -10,7 +10,7 @@ use Rattle.tx_core.proofs.seats.Beginnings.{run_beginning}
 use Rattle.tx_trace.specs.Traces.{Noted, Traces}
 use Rattle.tx_text.specs.declared.lines.Found.{Found}
 use Rattle.tx_text.specs.declared.lines.Found.TheVariants as found
-use Rattle.tx_text.specs.Lines.{lines_of, ReadsLine}
+use Rattle.tx_text.specs.Lines.{lines_of}
 use Rattle.tx_text.specs.Members.{reply_text}
 use Rattle.tx_reply.specs.declared.reply.ScriptReply.{ScriptReply}
 use Rattle.tx_reply.specs.Replies.{reply_words}
@@ -19,9 +19,8 @@ use Rattle.tx_engine.specs.Slots.{Held, engine_state, own, Goes, GoesTo, TurnedB
 use Rattle.tx_engine.specs.Openings.{IsOpening}
 use Rattle.tx_script.specs.declared.line.Turned.TheVariants as turned
 use Rattle.tx_script.specs.Play.{line_turn}
-use Rattle.tx_script.specs.Loops.{Ahead, FoundTurned, FitsFound, NotesLine, NumberedAt}
+use Rattle.tx_script.specs.Loops.{Ahead, AheadBy, FoundTurned, FitsFound, NotesLine, NumberedAt}
 use Rattle.tx_script.proofs.Scripts.{Counts, before_too, exactly}
-use Rattle.tx_script.proofs.Lines.{reads_ahead}
 use Rattle.tx_script.proofs.LineNumbers.{NumbersSoFar, none_so_far, numbers_on, numbered_at, line_grew, counted, filled}
 
 module _ (bounds : List Key) (number : ℕ) (line : List ℕ) (e next : Held) where
@@ -60,11 +59,28 @@ module _ (bounds : List Key) (first0 : Found) (line0 : List ℕ) (left0 old : Op
       → (ahead : List (List ℕ)) × Ahead f line left ahead
       × NumbersSoFar bounds lines ahead old new number e numbers
 
+  -- the same between two lines, where it may not have been looked yet what the first is
+  abbrev pub NumbersBy : Option Found → List ℕ → Option (List ℕ) → Option (List ℕ) → ℕ → Held → List ℕ → Type 0
+  NumbersBy before line left new number e numbers = length e.network.newest ≤ own e
+      → IsWorldRun bounds e.network.newest → (lines : List (List ℕ)) → Ahead first0 line0 left0 lines
+      → (ahead : List (List ℕ)) × AheadBy before line left ahead
+      × NumbersSoFar bounds lines ahead old new number e numbers
+
   pub numbers_first : (e : Held) (numbers : Option (List ℕ)) → IsOpening e → length e.slots ≡ MAX_LIVE_SESSIONS
-      → IfSome numbers (λ ns. ns ≡ []) → IfSome numbers (NumbersOn first0 line0 left0 old 0 e)
+      → IfSome numbers (λ ns. ns ≡ []) → IfSome numbers (NumbersBy (Some first0) line0 left0 old 0 e)
   numbers_first e None opens size none = tt
   numbers_first e (Some ns) opens size none =
       λ le run lines a. (lines, a, none_so_far bounds e lines old ns opens size none)
+
+  -- it was looked what it is
+  pub numbers_found : (before : Option Found) (line0' : List ℕ) (left0' new : Option (List ℕ)) (number : ℕ) (e : Held)
+      (f : Found) (line : List ℕ) (left : Option (List ℕ)) (numbers : Option (List ℕ))
+      → ((lines : List (List ℕ)) → AheadBy before line0' left0' lines → Ahead f line left lines)
+      → IfSome numbers (NumbersBy before line0' left0' new number e)
+      → IfSome numbers (NumbersOn f line left new number e)
+  numbers_found before line0' left0' new number e f line left None reads on = tt
+  numbers_found before line0' left0' new number e f line left (Some ns) reads on = λ le run lines a. (
+      let (ahead, is, x) = on le run lines a in (ahead, reads ahead is, x))
 
   module _ (f : Found) (line : List ℕ) (left new : Option (List ℕ)) (number : ℕ) (e next : Held)
       (c : Counts bounds number e) where
@@ -81,33 +97,30 @@ module _ (bounds : List Key) (first0 : Found) (line0 : List ℕ) (left0 old : Op
           line (engine_state e)) reply (engine_state next)
       follows le = exactly bounds number e next c _ go le
 
-      next_numbers : (f' : Found) (line' : List ℕ) (left' : Option (List ℕ))
-          → IfSome left (λ bytes. ReadsLine bytes left' f' line') → (count : ℕ)
+      next_numbers : (line' : List ℕ) (count : ℕ)
           → Some count ≡ option_map (λ (t : Noted). length t.steps) next.network.trace → (numbers : List ℕ)
           → NumbersOn f line left new number e numbers
-          → NumbersOn f' line' left' new' (number + 1) next (filled numbers count (number + 1))
-      next_numbers f' line' left' reads count made numbers on = λ le run lines a. (
+          → NumbersBy None line' left new' (number + 1) next (filled numbers count (number + 1))
+      next_numbers line' count made numbers on = λ le run lines a. (
           let grew = line_grew bounds line number e next reply (follows le) in
           let (ahead, is, x) = on (before_too bounds number e next c _ goes le)
           (run_beginning bounds e.network.newest next.network.newest run grew) lines a in
           let (rest, left_is, at) = reply_ahead f line left ahead reply fits is in (
             lines_of rest,
-            reads_ahead f' line' rest left' (subst (λ o. IfSome o (λ bytes. ReadsLine bytes left' f' line')) left_is
-                reads),
+            (rest, left_is, refl),
             numbers_on bounds line number e next reply (follows le) lines (lines_of rest) old new numbers
                 (subst (λ l. NumbersSoFar bounds lines l old new number e numbers) at x) count
                 (counted next.network.trace count bounds next.network.newest made (traced le) run) new' sent,
           ))
 
-      pub numbers_next : (f' : Found) (line' : List ℕ) (left' : Option (List ℕ))
-          → IfSome left (λ bytes. ReadsLine bytes left' f' line') → (made : Option ℕ)
+      pub numbers_next : (line' : List ℕ) (made : Option ℕ)
           → made ≡ option_map (λ (t : Noted). length t.steps) next.network.trace → (olds news : Option (List ℕ))
           → NotesLine (number + 1) made olds news → IfSome olds (NumbersOn f line left new number e)
-          → IfSome news (NumbersOn f' line' left' new' (number + 1) next)
-      numbers_next f' line' left' reads made is olds None noted on = tt
-      numbers_next f' line' left' reads made is olds (Some ns) (before, count, was, so_many, fills) on =
-          subst (NumbersOn f' line' left' new' (number + 1) next) (sym fills)
-          (next_numbers f' line' left' reads count (sym so_many ∙ is) before
+          → IfSome news (NumbersBy None line' left new' (number + 1) next)
+      numbers_next line' made is olds None noted on = tt
+      numbers_next line' made is olds (Some ns) (before, count, was, so_many, fills) on =
+          subst (NumbersBy None line' left new' (number + 1) next) (sym fills)
+          (next_numbers line' count (sym so_many ∙ is) before
           (subst (λ o. IfSome o (NumbersOn f line left new number e)) was on))
 
     -- nothing is left

@@ -8,7 +8,7 @@ use Rattle.tx_text.specs.declared.lines.Found.TheVariants as found
 use Rattle.tx_text.specs.Lines.{lines_of}
 use Rattle.tx_engine.specs.Semantics.{EngineState}
 use Rattle.tx_engine.specs.Slots.{Held, engine_state, own, Goes, TurnedBy}
-use Rattle.tx_engine.specs.declared.stage.SessionStage.{SessionStage}
+use Rattle.tx_ops.specs.declared.stage.SessionStage.{SessionStage}
 use Rattle.tx_script.specs.declared.line.Turned.TheVariants as turned
 use Rattle.tx_script.specs.Play.{line_turn}
 use Rattle.tx_script.specs.Loops.{Ahead, FoundTurned, FitsFound}

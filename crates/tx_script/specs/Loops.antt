@@ -1,10 +1,10 @@
 -- Where the loop over the lines stands. Only this crate's own clauses cite it.
 use Rattle.std.specs.Prelude.{◌≡◌, ◌⊎◌, ◌<◌, ◌≤◌, ◌-◌, ℕ, List, [], ◌∷◌, ◌++◌, Bool, length, take, replicate, Option, Some, None, IfSome, Ok, Err}
 use Rattle.std.specs.List.{concat}
-use Rattle.std.specs.Io.KnownBytes.{Appends, Keeps}
+use Rattle.std.specs.Io.KnownBytes.{Appends, Consumes, Keeps}
 use Rattle.tx_types.specs.declared.fault.Cause.TheVariants as cause
 use Rattle.tx_types.specs.declared.key.Key.{Key}
-use Rattle.tx_types.specs.declared.limits.TheConstants.{MAX_LIVE_SESSIONS}
+use Rattle.tx_types.specs.declared.limits.TheConstants.{MAX_LINES, MAX_LIVE_SESSIONS}
 use Rattle.tx_core.specs.Histories.{History, Begins}
 use Rattle.tx_core.specs.Shadow.{shadow}
 use Rattle.tx_trace.specs.Traces.{Noted}
@@ -15,11 +15,14 @@ use Rattle.tx_text.specs.declared.end.End.TheVariants.{Well, Faulted}
 use Rattle.tx_text.specs.declared.end.End.TheVariants as ended
 use Rattle.tx_text.specs.declared.lines.Found.{Found}
 use Rattle.tx_text.specs.declared.lines.Found.TheVariants as found
-use Rattle.tx_text.specs.Lines.{lines_of, max_line}
+use Rattle.tx_text.specs.Lines.{lines_of, max_line, NoNewline}
+use Rattle.tx_reply.specs.declared.reply.ScriptReply.{ScriptReply}
+use Rattle.tx_ops.specs.declared.stage.SessionStage.{SessionStage}
 use Rattle.tx_engine.specs.Semantics.{opening}
-use Rattle.tx_engine.specs.Slots.{Held, engine_state, own, AllSeated, TurnedBy}
+use Rattle.tx_engine.specs.Slots.{Held, engine_state, own, AllSeated, Goes, TurnedBy}
 use Rattle.tx_script.specs.declared.line.Turned.{Turned}
 use Rattle.tx_script.specs.declared.line.Turned.TheVariants as turned
+use Rattle.tx_script.specs.Stages.{line_stage}
 use Rattle.tx_evidence.specs.Lines.{bounds_at}
 use Rattle.tx_script.specs.Play.{line_turn, Played, Plays, render, EndsLines, BreaksLines}
 use Rattle.tx_script.specs.Checked.{IsBegun, EndsCheckedLines, BreaksCheckedLines}
@@ -58,6 +61,45 @@ FitsFound found.Line (turned.Goes reply) = Unit {0}
 FitsFound found.Line (turned.Stops c) = Unit {0}
 FitsFound found.Long t = t ≡ turned.Stops cause.Long
 FitsFound found.End t = t ≡ turned.End
+
+-- a reply comes only of a line within the limits
+abbrev pub IsEarly : ℕ → Turned → Type 0
+IsEarly number t = (reply : ScriptReply) → t ≡ turned.Goes reply → number ≤ MAX_LINES
+
+-- how far the session of a fault is, where that is noted: why the line is out of order
+abbrev pub NotesFault : Held → ℕ → List ℕ → Turned → Option SessionStage → Type 0
+NotesFault e number line turned.End stage = stage ≡ None
+NotesFault e number line (turned.Goes reply) stage = Unit {0}
+NotesFault e number line (turned.Stops c) stage = IfSome stage
+    (λ at. (c ≡ cause.Order) × (line_stage (engine_state e) number line ≡ Some at))
+
+-- these lines come next, by what was found of the first of them, where that was looked for
+abbrev pub AheadBy : Option Found → List ℕ → Option (List ℕ) → List (List ℕ) → Type 0
+AheadBy (Some f) line left lines = Ahead f line left lines
+AheadBy None line left lines = (bytes : List ℕ) × (left ≡ Some bytes) × (lines ≡ lines_of bytes)
+
+-- what came of the line that comes first in known bytes, and then its newline
+pub record LineTurned (bounds : List Key) (number : ℕ) (left left' : Option (List ℕ)) (t : Turned)
+    (old new : Held) (stage : Option SessionStage) : Type 0 where
+  pub text : List ℕ
+  pub plain : NoNewline text
+  pub short : length text ≤ max_line
+  pub consumed : Consumes left left' (text ++ 10 ∷ [])
+  pub goes : Goes bounds old new (FoundTurned bounds number found.Line text t old new)
+  pub fits : FitsFound found.Line t
+  pub early : IsEarly number t
+  pub notes : NotesFault new number text t stage
+
+-- what came of the next line, by what was found of it now, or before
+pub record NextTurned (bounds : List Key) (number : ℕ) (before : Option Found) (line : List ℕ)
+    (left left' : Option (List ℕ)) (t : Turned) (old new : Held) (stage : Option SessionStage) : Type 0 where
+  pub found : Found
+  pub text : List ℕ
+  pub ahead : (lines : List (List ℕ)) → AheadBy before line left lines → Ahead found text left' lines
+  pub goes : Goes bounds old new (FoundTurned bounds number found text t old new)
+  pub fits : FitsFound found t
+  pub early : IsEarly number t
+  pub notes : NotesFault new number text t stage
 
 -- what is counted of an engine between two lines
 pub record BetweenLines (bounds : List Key) (e : Held) : Type 0 where

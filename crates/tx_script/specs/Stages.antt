@@ -12,7 +12,7 @@ use Rattle.tx_steps.specs.Steps.{Text}
 use Rattle.tx_engine.specs.Semantics.{EngineState, stops}
 use Rattle.tx_engine.specs.Slots.{Held, engine_state}
 use Rattle.tx_engine.specs.Stages.{stage_at}
-use Rattle.tx_engine.specs.declared.stage.SessionStage.{SessionStage}
+use Rattle.tx_ops.specs.declared.stage.SessionStage.{SessionStage}
 use Rattle.tx_script.specs.Play.{line_turn, step_of}
 use Rattle.tx_script.specs.Players.{SoFar}
 

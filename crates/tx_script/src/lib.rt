@@ -13,6 +13,7 @@
 mod asked;
 mod checked;
 mod line;
+mod next;
 mod numbered;
 mod player;
 mod script;
@@ -23,5 +24,5 @@ pub use player::Player;
 pub use simulation::{bounds_in, simulate, simulate_checked, simulate_numbered};
 pub use tx_cells::{Makes, Plain};
 pub use tx_check::{check, check_with_reason};
-pub use tx_engine::SessionStage;
+pub use tx_ops::SessionStage;
 pub use tx_text::{Broken, End};

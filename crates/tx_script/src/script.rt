@@ -12,16 +12,17 @@ ghost use Rattle.tx_script.specs.Loops.{Ahead, BetweenLines, EndsAt, BreaksAt, N
 ghost use Rattle.tx_script.specs.Stages.{NotesStage};
 
 use crate::checked::write_rest;
-use crate::line::{Turned, play_found};
+use crate::line::Turned;
+use crate::next::play_next;
 use crate::numbered::{note_line, write_numbered};
-use crate::stage::fault_stage;
 use std::alloc::Global;
 use std::io::{BufRead, Write};
 use tx_cells::Families;
-use tx_engine::{Engine, SessionStage};
+use tx_engine::Engine;
 use tx_journal::JournalId;
+use tx_ops::SessionStage;
 use tx_reply::ReplyLine;
-use tx_text::{Broken, End, Found, finish, read_line};
+use tx_text::{Broken, End, Found, finish};
 use tx_trace::Trace;
 use tx_types::limits::MAX_LINES;
 
@@ -62,12 +63,11 @@ fn play_lines<J: JournalId, F: Families, R: BufRead, W: Write>(
 {
     let mut replies = ReplyLine::new(alloc)?;
     let mut number = 0;
-    let mut found = first;
+    let mut found = Some(first);
     'lines: loop {
-        match play_found(alloc, engine, number + 1, found, line.as_slice())? {
+        match play_next(alloc, engine, number + 1, found, reader, line, stage)? {
             Turned::End => {
                 finish(writer)?;
-                *stage = None;
                 return Ok(End::Well);
             }
             Turned::Goes(reply) => {
@@ -78,11 +78,10 @@ fn play_lines<J: JournalId, F: Families, R: BufRead, W: Write>(
             Turned::Stops(cause) => {
                 replies.write_fault(writer, number + 1, cause)?;
                 finish(writer)?;
-                *stage = fault_stage(alloc, engine, number + 1, line.as_slice(), cause);
                 return Ok(End::Faulted);
             }
         }
-        found = read_line(reader, line)?;
+        found = None;
     }
 }
 

@@ -6,8 +6,9 @@ ghost use Rattle.tx_script.specs.Stages.{ending_name, step_stage, line_stage};
 
 use std::alloc::Global;
 use tx_cells::Families;
-use tx_engine::{Engine, SessionStage};
+use tx_engine::Engine;
 use tx_journal::JournalId;
+use tx_ops::SessionStage;
 use tx_steps::{Call, Line, Op, Program, Step};
 use tx_text::{Broken, Parts};
 use tx_types::Cause;

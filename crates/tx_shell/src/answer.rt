@@ -2,6 +2,7 @@
 use crate::asked::Invocation;
 use crate::failure::{Failing, Stopped};
 use crate::perform::perform;
+use crate::stages::Stages;
 use std::cell::{Cell, RefCell};
 use std::io::{BufWriter, Read, Write};
 use std::sync::Wait;
@@ -9,22 +10,16 @@ use std::thread::Threads;
 use tx_command::{
     Asking, CommandEnd, Counted, Erasing, NotedFaults, Noting, Recent, Shared, reason,
 };
-use tx_script::SessionStage;
 use tx_text::Broken;
 
 // Says on standard error why lines are faults, where a session's state is why by that state. What
 // cannot be said there is left out: the line of each fault is written all the same.
-fn explain<I>(
-    asked: &Invocation<'_>,
-    faults: &[NotedFaults],
-    stage: Option<SessionStage>,
-    lines: &Recent<I>,
-) {
+fn explain<I>(asked: &Invocation<'_>, faults: &[NotedFaults], stages: &Stages, lines: &Recent<I>) {
     asked.progress.erase();
     let host = asked.host;
-    let state = stage.map(|stage| stage.as_str());
     'faults: for fault in faults {
         let line = lines.line(fault.number);
+        let state = stages.at(fault.number).map(|stage| stage.as_str());
         if let Ok(why) = reason(host.alloc(), asked.job.task, *fault, line, state) {
             let _ = eprintln!(host; "txkv: {why}");
         }
@@ -86,10 +81,10 @@ where
         return Err(Broken::Memory);
     };
     let mut writer = Noting::new(alloc, Shared::new(&shared));
-    let mut stage = None;
-    let ended = perform(rt, asked, &mut reader, &mut writer, &mut stage);
+    let mut stages = Stages::new(alloc);
+    let ended = perform(rt, asked, &mut reader, &mut writer, &mut stages);
     if !asked.is_talk() {
-        explain(asked, writer.faults(), stage, &reader);
+        explain(asked, writer.faults(), &stages, &reader);
     }
     if reader.inner().is_cut_off() {
         return Err(Broken::Output);

@@ -11,6 +11,7 @@ mod failure;
 mod generated;
 mod perform;
 mod program;
+mod stages;
 mod stats;
 
 pub use program::txkv;

@@ -6,8 +6,10 @@ use crate::cells::{
 };
 use crate::counter::Watching;
 use crate::generated::generate_script;
+use crate::stages::Stages;
 use crate::stats::stats_of;
 use std::io::{BufRead, Write};
+use std::mem::swap;
 use std::sync::Wait;
 use std::thread::Threads;
 use std::time::{Duration, Instant};
@@ -17,7 +19,6 @@ use tx_command::{CommandEnd, CommandTask, ExplainOptions, Steps};
 use tx_explain::{PictureForm, PictureOptions};
 use tx_recording::Orders;
 use tx_run::{RunResult, Settings};
-use tx_script::SessionStage;
 use tx_text::{Broken, End};
 
 // Tells what was played in so much time. What cannot be told is left out.
@@ -36,6 +37,7 @@ fn run<R, I, O>(
     settings: Settings,
     reader: &mut I,
     writer: &mut O,
+    stages: &mut Stages,
 ) -> Result<End, Broken>
 where
     R: AllocGlobal + Threads + Wait + Sync + Send + Clone + Drop,
@@ -52,7 +54,9 @@ where
             report(asked.host, played, elapsed);
         }
     }
-    drop(played);
+    if let Some(mut played) = played {
+        swap(&mut stages.lines, &mut played.stages);
+    }
     Ok(end)
 }
 
@@ -106,7 +110,7 @@ fn play<R, I, O>(
     asked: &Invocation<'_>,
     reader: &mut I,
     writer: &mut O,
-    stage: &mut Option<SessionStage>,
+    stages: &mut Stages,
 ) -> Result<End, Broken>
 where
     R: AllocGlobal + Threads + Wait + Sync + Send + Clone + Drop,
@@ -119,15 +123,27 @@ where
         CommandTask::Simulate if asked.is_talk() => {
             converse_over(asked.host, cells, reader, writer)
         },
-        CommandTask::Simulate => simulate_over(alloc, cells, reader, writer, stage),
+        CommandTask::Simulate => simulate_over(alloc, cells, reader, writer, &mut stages.script),
         CommandTask::SimulateChecked => {
-            simulate_checked_over(alloc, cells, reader, writer, stage)
+            simulate_checked_over(alloc, cells, reader, writer, &mut stages.script)
         }
         CommandTask::SimulateSteps => {
-            simulate_checked_over(alloc, cells, reader, &mut Steps::new(writer), stage)
+            simulate_checked_over(
+                alloc,
+                cells,
+                reader,
+                &mut Steps::new(writer),
+                &mut stages.script,
+            )
         }
         CommandTask::SimulateBeside => {
-            simulate_numbered_over(alloc, cells, reader, &mut Steps::new(writer), stage)
+            simulate_numbered_over(
+                alloc,
+                cells,
+                reader,
+                &mut Steps::new(writer),
+                &mut stages.script,
+            )
         }
         CommandTask::Explain(told) => {
             explain_over(alloc, cells, picture_asked(told), reader, writer)
@@ -138,19 +154,19 @@ where
         CommandTask::CheckAll(has_reasons) => check_all(alloc, has_reasons, reader, writer),
         CommandTask::Run(workers, life_time) => {
             let settings = Settings { workers, life_time };
-            run(rt, asked, settings, reader, writer)
+            run(rt, asked, settings, reader, writer, stages)
         }
     }
 }
 
 /// Does what is asked over these streams. Where a script stops at a step that its session may not
-/// make, `stage` says how far that session is.
+/// make, or sessions of a run do, `stages` says how far they are.
 pub(crate) fn perform<R, I, O>(
     rt: &R,
     asked: &Invocation<'_>,
     reader: &mut I,
     writer: &mut O,
-    stage: &mut Option<SessionStage>,
+    stages: &mut Stages,
 ) -> Result<CommandEnd, Broken>
 where
     R: AllocGlobal + Threads + Wait + Sync + Send + Clone + Drop,
@@ -171,6 +187,6 @@ where
             };
             judge(asked, options, reader, writer)
         }
-        _ => Ok(CommandEnd::of(play(rt, asked, reader, writer, stage)?)),
+        _ => Ok(CommandEnd::of(play(rt, asked, reader, writer, stages)?)),
     }
 }

@@ -1,8 +1,10 @@
 //! A line of a script, as it was read: what it says is a step, or there is a cause
 //! why it says none.
-ghost use Rattle.std.specs.Prelude.{◌≡◌, option_map, Some, None, if◌then◌else◌, Ok, Err, IfOk, IfErr, IfSome, MatchResult};
+ghost use Rattle.std.specs.Prelude.{◌≡◌, option_map, Some, None, if◌then◌else◌, Ok, Err, IfOk, IfErr, IfSome, IsTrue, MatchResult};
+ghost use Rattle.serde_json.specs.Data.{array};
 ghost use Rattle.serde_json.specs.View.{view};
 ghost use Rattle.tx_types.specs.declared.fault.Fault.TheVariants as fault;
+ghost use Rattle.tx_text.specs.Parts.{parts_items};
 ghost use Rattle.tx_steps.specs.Steps.{asked, IsApart};
 ghost use Rattle.tx_steps.specs.Lines.{data_of, data_said, step_in, bounds_in};
 
@@ -35,11 +37,45 @@ fn put_step_of_value<'s>(program: Program, value: &'s Value, out: &mut Step<&'s 
     }
 }
 
+/// Reads the line of this number where it is within the limits, and an array of plain members: these
+/// are put into `parts`, in place of what was there.
+#[inline(always)]
+pub fn scanned_line<'a>(number: u64, line: &'a [u8], parts: &mut Parts<'a>) -> bool
+    ensures { IsTrue result → data_said number line.now ≡ Ok (array (parts_items parts.new.items)) }
+{
+    line.len() <= MAX_LINE_BYTES && number <= MAX_LINES && scanned(line, parts)
+}
+
+// Reads a line as a value. Causes are looked for in the order `Long`, `Lines`, `Json`.
+#[cold]
+#[inline(never)]
+fn read_value<'p, 'a>(
+    alloc: Global,
+    number: u64,
+    line: &[u8],
+) -> Result<Result<Line<'p, 'a>, Cause>, Broken>
+    ensures ok { IfOk result (λ found. MatchResult found (λ l. data_said number line.now
+        ≡ Ok (data_of l)) (λ cause. data_said number line.now ≡ Err cause)) }
+    ensures err { IfErr result (λ why. why ≡ Broken.Memory) }
+{
+    if line.len() > MAX_LINE_BYTES {
+        return Ok(Err(Cause::Long));
+    }
+    if number > MAX_LINES {
+        return Ok(Err(Cause::Lines));
+    }
+    match value_of(alloc, line)? {
+        Ok(value) => Ok(Ok(Line::Other(value))),
+        Err(cause) => Ok(Err(cause)),
+    }
+}
+
 impl<'p, 'a> Line<'p, 'a> {
     /// Reads the line of this number. Causes are looked for in the order `Long`, `Lines`, `Json`.
     /// The members of a plain line are put into `parts`, in place of what was there.
     ///
     /// `Memory` where a growth was refused.
+    #[inline(always)]
     pub fn read(
         alloc: Global,
         number: u64,
@@ -50,19 +86,10 @@ impl<'p, 'a> Line<'p, 'a> {
             ≡ Ok (data_of l)) (λ cause. data_said number line.now ≡ Err cause)) }
         ensures err { IfErr result (λ why. why ≡ Broken.Memory) }
     {
-        if line.len() > MAX_LINE_BYTES {
-            return Ok(Err(Cause::Long));
-        }
-        if number > MAX_LINES {
-            return Ok(Err(Cause::Lines));
-        }
-        if scanned(line, parts) {
+        if scanned_line(number, line, parts) {
             return Ok(Ok(Line::Plain(parts.as_slice())));
         }
-        match value_of(alloc, line)? {
-            Ok(value) => Ok(Ok(Line::Other(value))),
-            Err(cause) => Ok(Err(cause)),
-        }
+        read_value(alloc, number, line)
     }
 
     // Puts the step that it says in a program's scripts into `out`, and tells

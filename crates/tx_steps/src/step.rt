@@ -181,7 +181,7 @@ fn any_step<'a>(members: &[Part<'a>], out: &mut Step<&'a str>) -> Option<()>
 /// Puts the step of a program's script that the members say into `out`, and tells
 /// whether they say one.
 #[inline(never)]
-pub(crate) fn put_step<'a>(program: Program, members: &[Part<'a>], out: &mut Step<&'a str>) -> bool
+pub fn put_step<'a>(program: Program, members: &[Part<'a>], out: &mut Step<&'a str>) -> bool
     ensures { (if result then Some (asked out.new) else None) ≡ step_said program (parts_items members.now) }
 {
     any_step(members, out).is_some() && out.is_of(program)

@@ -1,8 +1,9 @@
 -- Small facts on lists, and on the lines of a text.
-use Rattle.std.proofs.Common.{◌≡◌, ◌≢◌, ℕ, ◌-◌, ◌<◌, ◌≤◌, ◌==◌, ◌++◌, false, List, [], ◌∷◌, length, take, drop, length-drop, take_all, refl, sym, ap, subst, ◌∙◌, append_assoc, arith, ne_eqb, append-nil, Option, None, Some, IfSome}
+use Rattle.std.proofs.Common.{◌≡◌, ◌≢◌, ℕ, ◌-◌, ◌+◌, ◌<◌, ◌≤◌, ◌==◌, ◌++◌, false, List, [], ◌∷◌, length, take, drop, slice_index, length-drop, take_all, refl, sym, ap, subst, ◌∙◌, append_assoc, arith, ne_eqb, append-nil, Option, None, Some, IfSome}
 use Rattle.std.specs.Io.KnownBytes.{Consumes, Keeps, IsAtEnd}
 use Rattle.std.proofs.KnownBytes.{Consumes-trans}
 use Rattle.tx_text.specs.declared.lines.Found.TheVariants.{Line, Long, End}
+use Rattle.std.proofs.lemmas.List.{take-append-drop, drop_more}
 use Rattle.std.proofs.lemmas.List.Elements.{All-head, All-tail, All-append, All-cons, All-nil}
 use Rattle.tx_text.specs.Lines.{lines_of, onto_first, max_line, ReadsLine, NoNewline}
 
@@ -10,6 +11,13 @@ pub slice-end : (field : List ℕ) (s : ℕ) → take (length field - s) (drop s
 slice-end field s =
     let len = length-drop s field in
     take_all (length field - s) (drop s field) (omega arith)
+
+-- the bytes before a newline, it, and the bytes behind it
+pub split_at_newline : (bytes : List ℕ) (i : ℕ) → i < length bytes → slice_index bytes i ≡ 10
+    → bytes ≡ take i bytes ++ 10 ∷ drop (i + 1) bytes
+split_at_newline bytes i lt is =
+    sym (take-append-drop i bytes) ∙ ap (λ r. take i bytes ++ r) (drop_more bytes i 0 lt
+    ∙ ap (λ x. x ∷ drop (i + 1) bytes) is)
 
 -- a line and its newline come first
 pub lines_of-line : (line rest : List ℕ) → NoNewline line → lines_of (line ++ 10 ∷ rest) ≡ line ∷ lines_of rest

@@ -37,6 +37,10 @@ ReadsLine bytes left End line = bytes ≡ []
 abbrev pub NoNewline : List ℕ → Type 0
 NoNewline line = All (λ x. x ≢ 10) line
 
+-- this line comes first in the bytes, and then its newline
+abbrev pub IsFirstLine : List ℕ → List ℕ → Type 0
+IsFirstLine line bytes = (rest : List ℕ) × (bytes ≡ line ++ 10 ∷ rest) × NoNewline line
+
 -- what was taken of known bytes, and put at the end of a line
 abbrev pub TakesBytes : Option (List ℕ) → Option (List ℕ) → List ℕ → List ℕ → Took → Type 0
 TakesBytes old new before after Nothing = (after ≡ before) × Consumes old new [] × IfSome old (λ _. IsAtEnd new)

@@ -21,7 +21,7 @@ mod value;
 
 pub use end::{Broken, End};
 pub use fault::put_fault;
-pub use lines::{Found, read_line};
+pub use lines::{Found, read_line, whole_line};
 pub use list::{Entries, put_list};
 pub use listed::{ListItem, Scanned, scanned_with_rows};
 pub use output::{finish, send};

@@ -1,7 +1,7 @@
 //! Reading a text line by line, what is at hand at a time. A line is ended by a newline or by the
 //! end of the input; the last newline begins no line.
 ghost use Rattle.std.specs.Prelude.{◌≡◌, ◌≢◌, ◌<◌, ◌≤◌, length, take, slice_index, All, IfOk, IfSome, true, false};
-ghost use Rattle.tx_text.specs.Lines.{ReadsLine, TakesBytes};
+ghost use Rattle.tx_text.specs.Lines.{IsFirstLine, ReadsLine, TakesBytes};
 
 use crate::Broken;
 use memchr::memchr;
@@ -67,6 +67,20 @@ fn take_some<R: BufRead>(reader: &mut R, line: &mut Vec<u8>) -> Result<Took, Bro
         reader.consume(len);
         Ok(Took::Part)
     }
+}
+
+/// The first line of these bytes, where it lies whole in them with its newline, and is not too
+/// long.
+#[inline(always)]
+pub fn whole_line(bytes: &[u8]) -> Option<&[u8]>
+    ensures short { IfSome result (λ line. length line.now ≤ MAX_LINE_BYTES) }
+    ensures first { IfSome result (λ line. IsFirstLine line.now bytes.now) }
+{
+    let (len, found) = before_newline(bytes);
+    if !found || len > MAX_LINE_BYTES {
+        return None;
+    }
+    Some(&bytes[..len])
 }
 
 /// Reads the next line into `line`, without its newline, and tells what was found. A line is too

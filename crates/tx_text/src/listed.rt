@@ -6,7 +6,7 @@ ghost use Rattle.tx_text.specs.Parts.{json_of, scanned_items};
 ghost use Rattle.tx_text.specs.Scan.{BeginsRow, BeginsRows};
 
 use crate::part::Parts;
-use crate::scan::{is_over, leading, pass, string};
+use crate::scan::{is_over, leading, pass, string, text_of};
 use std::alloc::Global;
 
 /// A row: an array of two or three strings.
@@ -81,9 +81,7 @@ pub fn scanned_with_rows<'a>(
     ensures { IfSome result (λ found. json_of line.now ≡ Some (array (scanned_items parts.new.items found))) }
 {
     parts.clear();
-    let Ok(text) = str::from_utf8(line) else {
-        return None;
-    };
+    let text = text_of(line)?;
     let position = leading(text, parts)?;
     let Some(at) = position else {
         return Some(Scanned::Plain);

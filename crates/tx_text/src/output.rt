@@ -6,8 +6,10 @@ ghost use Rattle.tx_text.specs.Output.{AppendsPart};
 use crate::Broken;
 use std::io::{ErrorKind, Write};
 
-/// Writes all of the bytes, or the first few of them before a failure, which is `Output`.
-pub fn send<W: Write>(writer: &mut W, bytes: &[u8]) -> Result<(), Broken>
+// Writes what a first write has left, one write after another.
+#[cold]
+#[inline(never)]
+fn send_rest<W: Write>(writer: &mut W, bytes: &[u8]) -> Result<(), Broken>
     ensures all { OnOk result (Appends (W.contents writer.old) (W.contents writer.new) bytes.now) }
     ensures part { OnErr result (AppendsPart (W.contents writer.old) (W.contents writer.new) bytes.now) }
     ensures err { IfErr result (λ e. e ≡ Broken.Output) }
@@ -28,6 +30,27 @@ pub fn send<W: Write>(writer: &mut W, bytes: &[u8]) -> Result<(), Broken>
         }
     }
     Err(Broken::Output)
+}
+
+/// Writes all of the bytes, or the first few of them before a failure, which is `Output`. Mostly
+/// one write takes them all.
+#[inline(always)]
+pub fn send<W: Write>(writer: &mut W, bytes: &[u8]) -> Result<(), Broken>
+    ensures all { OnOk result (Appends (W.contents writer.old) (W.contents writer.new) bytes.now) }
+    ensures part { OnErr result (AppendsPart (W.contents writer.old) (W.contents writer.new) bytes.now) }
+    ensures err { IfErr result (λ e. e ≡ Broken.Output) }
+{
+    match writer.write(bytes) {
+        Ok(n) if n == bytes.len() => Ok(()),
+        Ok(0) => Err(Broken::Output),
+        Ok(n) => send_rest(writer, &bytes[n..]),
+        Err(e) => {
+            if e.kind() != ErrorKind::Interrupted {
+                return Err(Broken::Output);
+            }
+            send_rest(writer, bytes)
+        }
+    }
 }
 
 /// Hands on what the writer still holds back. `Output` where that failed.

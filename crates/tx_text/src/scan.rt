@@ -6,6 +6,7 @@ ghost use Rattle.json.specs.Token.{string as string_token, null as null_token, e
 ghost use Rattle.json.specs.Lex.{token, in_word, lex};
 ghost use Rattle.std.specs.List.{prefix_len};
 ghost use Rattle.std.specs.Char.{is_ascii_digit};
+ghost use Rattle.std.specs.Str.{IsUtf8};
 ghost use Rattle.serde_json.specs.Data.{array};
 ghost use Rattle.serde_json.specs.Read.{read};
 ghost use Rattle.tx_text.specs.Parts.{json_of, parts_items};
@@ -206,6 +207,19 @@ fn member(line: &str, from: usize) -> Option<(Part<'_>, usize)>
     Some((Part::Null, after))
 }
 
+// A line as text. Most have ASCII alone, which is seen a word at a time.
+pub(crate) fn text_of(line: &[u8]) -> Option<&str>
+    ensures { IfSome result (λ text. (text.now ≡ line.now) × IsUtf8 line.now) }
+{
+    if line.is_ascii() {
+        return Some(unsafe { str::from_utf8_unchecked(line) });
+    }
+    match str::from_utf8(line) {
+        Ok(text) => Some(text),
+        Err(_) => None,
+    }
+}
+
 /// Puts the plain members of a line's array into `parts`, up to its end, or up to the position of
 /// the first that is none.
 pub(crate) fn leading<'a>(line: &'a str, parts: &mut Parts<'a>) -> Option<Option<usize>>
@@ -240,7 +254,7 @@ pub fn scanned<'a>(line: &'a [u8], parts: &mut Parts<'a>) -> bool
     ensures { IsTrue result → json_of line.now ≡ Some (array (parts_items parts.new.items)) }
 {
     parts.clear();
-    let Ok(text) = str::from_utf8(line) else {
+    let Some(text) = text_of(line) else {
         return false;
     };
     match leading(text, parts) {

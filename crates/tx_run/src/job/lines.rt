@@ -131,6 +131,7 @@ impl<J: JournalId, L: Source, F: Families + Drop, R: Wait + Drop> ScriptJob<J, L
         ensures { JobGoesOn (with_line number self.old) self.new }
     {
         let result = self.result_of(number, &mut session, step);
+        self.note_stage(number, &session, &step, &result);
         self.hear(&mut session);
         self.set_state(JobState::Live(session));
         self.on_answer(number, result);

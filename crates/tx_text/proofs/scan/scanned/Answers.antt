@@ -10,5 +10,5 @@ use Rattle.tx_text.proofs.scan.scanned.Goals as goal
 pub returns-in-Some-None : goal.returns-in-Some-None
 returns-in-Some-None c so =
     let whole = MatchOption-at_none _ _ c.in-Some-None.field-0-is c.in-Some-None.ensures in
-    json_is c.args.line.now _ c.in-Ok.ensures.cases.1
-    (subst (λ line. read line ≡ Some (array (parts_items c.leading.new.parts.items))) c.in-Ok.ensures.cases.0 whole)
+    json_is c.args.line.now _ c.in-Some.ensures.1
+    (subst (λ line. read line ≡ Some (array (parts_items c.leading.new.parts.items))) c.in-Some.ensures.0 whole)

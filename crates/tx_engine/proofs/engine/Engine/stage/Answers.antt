@@ -5,7 +5,8 @@ use Rattle.tx_transaction.specs.Sessions.{SessionState}
 use Rattle.tx_engine.specs.declared.slots.SessionSlot.TheVariants.{Free, Live, Lent}
 use Rattle.tx_engine.specs.Semantics.{live_at}
 use Rattle.tx_engine.specs.Slots.{Held, SlotContent, texts, name_at, engine_state, AllSeated}
-use Rattle.tx_engine.specs.Stages.{stage_of, stage_at}
+use Rattle.tx_engine.specs.Stages.{stage_at}
+use Rattle.tx_ops.specs.Stages.{stage_of}
 use Rattle.tx_engine.proofs.Engines.{named, no_name, no_place, is_free, is_live}
 use Rattle.tx_engine.proofs.engine.Engine.stage.Goals as goal
 

@@ -4,7 +4,7 @@ use Rattle.tx_steps.specs.Lines.{data_of, data_said}
 use Rattle.tx_script.specs.Play.{value_turn, said_turn, line_turn}
 use Rattle.tx_script.proofs.Ends.{then_ok}
 use Rattle.tx_script.proofs.LineTurns.{stops_so, goes_as}
-use Rattle.tx_script.proofs.line.play_line.Goals as goal
+use Rattle.tx_script.proofs.line.play_other.Goals as goal
 
 pub returns-in-Err-clause-goes : goal.returns-in-Err-clause-goes
 returns-in-Err-clause-goes g c =

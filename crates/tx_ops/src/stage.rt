@@ -1,8 +1,8 @@
 //! How far a session is, by which a step may not be its next one.
 ghost use Rattle.std.specs.Prelude.{◌≡◌, ◌↔◌, true};
 ghost use Rattle.tx_transaction.specs.Sessions.{can_draw};
-ghost use Rattle.tx_engine.specs.declared.stage.SessionStage.TheVariants as stages;
-ghost use Rattle.tx_engine.specs.Stages.{stage_of};
+ghost use Rattle.tx_ops.specs.declared.stage.SessionStage.TheVariants as stages;
+ghost use Rattle.tx_ops.specs.Stages.{stage_of};
 
 use tx_client::Phase;
 use tx_transaction::Transaction;
