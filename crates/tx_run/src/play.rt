@@ -88,8 +88,8 @@ pub struct RunResult {
     pub replies: Replies,
     /// Whether a fault of the script ended a session.
     pub faulted: bool,
-    /// How far the sessions were whose last line was out of order, each with the number of that line.
-    /// One for which there was no memory is left out.
+    /// How far the sessions were whose last line was out of order, each with the number of that
+    /// line. One for which there was no memory is left out.
     pub stages: Vec<(u64, SessionStage)>,
     /// How many write records were collected meanwhile, by collections that were not refused.
     pub collected: u64,

@@ -86,8 +86,8 @@ fn play_members<J: JournalId, F: Families>(
 ) -> Result<ScriptReply, Cause>
     requires ready { AllSeated J.bounds 1 engine.old }
     ensures goes { Goes J.bounds engine.old engine.new (TurnedBy J.bounds
-        (λ refused. step_turn J.bounds refused (step_said programs.Simulate (parts_items members.now))) result engine.old
-        engine.new) }
+        (λ refused. step_turn J.bounds refused (step_said programs.Simulate (parts_items members.now))) result
+        engine.old engine.new) }
 {
     let mut step = Step::Tick(0);
     if put_step(Program::Simulate, members, &mut step) {

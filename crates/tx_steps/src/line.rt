@@ -37,8 +37,8 @@ fn put_step_of_value<'s>(program: Program, value: &'s Value, out: &mut Step<&'s 
     }
 }
 
-/// Reads the line of this number where it is within the limits, and an array of plain members: these
-/// are put into `parts`, in place of what was there.
+/// Reads the line of this number where it is within the limits, and an array of plain members:
+/// these are put into `parts`, in place of what was there.
 #[inline(always)]
 pub fn scanned_line<'a>(number: u64, line: &'a [u8], parts: &mut Parts<'a>) -> bool
     ensures { IsTrue result → data_said number line.now ≡ Ok (array (parts_items parts.new.items)) }

@@ -97,7 +97,8 @@ returns-in_err-finish-in-End-clause-breaks g c =
     (g.W.Write.contents c.args.writer.now) why c.play_next.new.engine.network.newest
     (g.W.Write.contents c.finish.new.writer) =
     λ why le. (end_broken g.J.JournalId.bounds c.args.first c.args.line.now.items
-    (g.R.Read.remaining c.args.reader.now) (g.W.Write.contents c.args.writer.now) nx.found nx.text (g.R.Read.remaining c.play_next.new.reader) (g.W.Write.contents c.lines.writer) c.lines.number c.lines.engine
+    (g.R.Read.remaining c.args.reader.now) (g.W.Write.contents c.args.writer.now) nx.found nx.text
+    (g.R.Read.remaining c.play_next.new.reader) (g.W.Write.contents c.lines.writer) c.lines.number c.lines.engine
     on c.play_next.new.engine c.lines.invariant.0 goes fits
     (g.W.Write.contents c.finish.new.writer) c.finish.ensures.kept le why) in
     if_any_err _ f
@@ -135,8 +136,10 @@ returns-in-End-clause-numbered g c =
     + 1) nx.found nx.text turned.End c.lines.engine c.play_next.new.engine) = rw c.in-End.is at nx.goes in
     let fits : FitsFound nx.found turned.End = rw c.in-End.is at nx.fits in
     λ well le run first. numbers_end g.J.JournalId.bounds c.args.first c.args.line.now.items
-    (g.R.Read.remaining c.args.reader.now) (g.W.Write.contents c.args.writer.now) nx.found nx.text (g.R.Read.remaining c.play_next.new.reader) (g.W.Write.contents c.lines.writer) c.lines.number c.lines.engine
-    c.play_next.new.engine c.lines.invariant.0 goes fits (g.W.Write.contents c.finish.new.writer) c.finish.ensures.kept
+    (g.R.Read.remaining c.args.reader.now) (g.W.Write.contents c.args.writer.now) nx.found nx.text
+    (g.R.Read.remaining c.play_next.new.reader) (g.W.Write.contents c.lines.writer) c.lines.number c.lines.engine
+    c.play_next.new.engine c.lines.invariant.0 goes fits (g.W.Write.contents c.finish.new.writer)
+    c.finish.ensures.kept
     (option_map (λ v. v.items) c.lines.numbers) (numbers_found g.J.JournalId.bounds c.args.first
     c.args.line.now.items (g.R.Read.remaining c.args.reader.now) (g.W.Write.contents c.args.writer.now) c.lines.found
     c.lines.line.items (g.R.Read.remaining c.lines.reader) (g.W.Write.contents c.lines.writer) c.lines.number
@@ -151,7 +154,8 @@ returns-in_err-write_reply-in-Goes-clause-kept g c =
     let nx = c.in_ok-play_next.ensures.turned in
     let goes : Goes g.J.JournalId.bounds c.lines.engine c.play_next.new.engine
     (FoundTurned g.J.JournalId.bounds (c.lines.number
-    + 1) nx.found nx.text (turned.Goes c.in-Goes.reply) c.lines.engine c.play_next.new.engine) = rw c.in-Goes.is at nx.goes in
+    + 1) nx.found nx.text (turned.Goes c.in-Goes.reply) c.lines.engine c.play_next.new.engine) = rw c.in-Goes.is at
+    nx.goes in
     kept_after g.J.JournalId.bounds c.lines.number c.lines.engine c.play_next.new.engine c.lines.invariant.0 _ goes
     c.lines.invariant.1
 
@@ -164,13 +168,15 @@ returns-in_err-write_reply-in-Goes-clause-breaks g c =
     (g.R.Read.remaining c.play_next.new.reader) c.lines.invariant.2 nx.ahead in
     let goes : Goes g.J.JournalId.bounds c.lines.engine c.play_next.new.engine
     (FoundTurned g.J.JournalId.bounds (c.lines.number
-    + 1) nx.found nx.text (turned.Goes c.in-Goes.reply) c.lines.engine c.play_next.new.engine) = rw c.in-Goes.is at nx.goes in
+    + 1) nx.found nx.text (turned.Goes c.in-Goes.reply) c.lines.engine c.play_next.new.engine) = rw c.in-Goes.is at
+    nx.goes in
     let fits : FitsFound nx.found (turned.Goes c.in-Goes.reply) =
     rw c.in-Goes.is at nx.fits in
     let e = c.in_err-write_reply-in-Goes.field-0.0 in
     if_err_is _ _ e c.from_residual-in_err-write_reply-in-Goes.ensures.1
     (λ le. reply_breaks g.J.JournalId.bounds c.args.first c.args.line.now.items
-    (g.R.Read.remaining c.args.reader.now) (g.W.Write.contents c.args.writer.now) nx.found nx.text (g.R.Read.remaining c.play_next.new.reader) (g.W.Write.contents c.lines.writer) c.lines.number c.lines.engine
+    (g.R.Read.remaining c.args.reader.now) (g.W.Write.contents c.args.writer.now) nx.found nx.text
+    (g.R.Read.remaining c.play_next.new.reader) (g.W.Write.contents c.lines.writer) c.lines.number c.lines.engine
     on c.play_next.new.engine c.lines.invariant.0 c.in-Goes.reply goes fits e
     (g.W.Write.contents c.write_reply.new.writer) c.in_err-write_reply-in-Goes.ensures.part le)
 
@@ -179,7 +185,8 @@ returns-in_err-write_fault-in-Stops-clause-kept g c =
     let nx = c.in_ok-play_next.ensures.turned in
     let goes : Goes g.J.JournalId.bounds c.lines.engine c.play_next.new.engine
     (FoundTurned g.J.JournalId.bounds (c.lines.number
-    + 1) nx.found nx.text (turned.Stops c.in-Stops.cause) c.lines.engine c.play_next.new.engine) = rw c.in-Stops.is at nx.goes in
+    + 1) nx.found nx.text (turned.Stops c.in-Stops.cause) c.lines.engine c.play_next.new.engine) = rw c.in-Stops.is at
+    nx.goes in
     kept_after g.J.JournalId.bounds c.lines.number c.lines.engine c.play_next.new.engine c.lines.invariant.0 _ goes
     c.lines.invariant.1
 
@@ -192,13 +199,15 @@ returns-in_err-write_fault-in-Stops-clause-breaks g c =
     (g.R.Read.remaining c.play_next.new.reader) c.lines.invariant.2 nx.ahead in
     let goes : Goes g.J.JournalId.bounds c.lines.engine c.play_next.new.engine
     (FoundTurned g.J.JournalId.bounds (c.lines.number
-    + 1) nx.found nx.text (turned.Stops c.in-Stops.cause) c.lines.engine c.play_next.new.engine) = rw c.in-Stops.is at nx.goes in
+    + 1) nx.found nx.text (turned.Stops c.in-Stops.cause) c.lines.engine c.play_next.new.engine) = rw c.in-Stops.is at
+    nx.goes in
     let fits : FitsFound nx.found (turned.Stops c.in-Stops.cause) =
     rw c.in-Stops.is at nx.fits in
     let e = c.in_err-write_fault-in-Stops.field-0.0 in
     if_err_is _ _ e c.from_residual-in_err-write_fault-in-Stops.ensures.1
     (λ le. fault_breaks g.J.JournalId.bounds c.args.first c.args.line.now.items
-    (g.R.Read.remaining c.args.reader.now) (g.W.Write.contents c.args.writer.now) nx.found nx.text (g.R.Read.remaining c.play_next.new.reader) (g.W.Write.contents c.lines.writer) c.lines.number c.lines.engine
+    (g.R.Read.remaining c.args.reader.now) (g.W.Write.contents c.args.writer.now) nx.found nx.text
+    (g.R.Read.remaining c.play_next.new.reader) (g.W.Write.contents c.lines.writer) c.lines.number c.lines.engine
     on c.play_next.new.engine c.lines.invariant.0 c.in-Stops.cause goes fits le e
     (g.W.Write.contents c.write_fault.new.writer) c.in_err-write_fault-in-Stops.ensures.part)
 
@@ -207,7 +216,8 @@ returns-in_err-finish-in-Stops-clause-kept g c =
     let nx = c.in_ok-play_next.ensures.turned in
     let goes : Goes g.J.JournalId.bounds c.lines.engine c.play_next.new.engine
     (FoundTurned g.J.JournalId.bounds (c.lines.number
-    + 1) nx.found nx.text (turned.Stops c.in-Stops.cause) c.lines.engine c.play_next.new.engine) = rw c.in-Stops.is at nx.goes in
+    + 1) nx.found nx.text (turned.Stops c.in-Stops.cause) c.lines.engine c.play_next.new.engine) = rw c.in-Stops.is at
+    nx.goes in
     kept_after g.J.JournalId.bounds c.lines.number c.lines.engine c.play_next.new.engine c.lines.invariant.0 _ goes
     c.lines.invariant.1
 
@@ -220,7 +230,8 @@ returns-in_err-finish-in-Stops-clause-breaks g c =
     (g.R.Read.remaining c.play_next.new.reader) c.lines.invariant.2 nx.ahead in
     let goes : Goes g.J.JournalId.bounds c.lines.engine c.play_next.new.engine
     (FoundTurned g.J.JournalId.bounds (c.lines.number
-    + 1) nx.found nx.text (turned.Stops c.in-Stops.cause) c.lines.engine c.play_next.new.engine) = rw c.in-Stops.is at nx.goes in
+    + 1) nx.found nx.text (turned.Stops c.in-Stops.cause) c.lines.engine c.play_next.new.engine) = rw c.in-Stops.is at
+    nx.goes in
     let fits : FitsFound nx.found (turned.Stops c.in-Stops.cause) =
     rw c.in-Stops.is at nx.fits in
     let f : (why : Broken) → length c.play_next.new.engine.network.newest ≤ own c.play_next.new.engine
@@ -228,7 +239,8 @@ returns-in_err-finish-in-Stops-clause-breaks g c =
     (g.W.Write.contents c.args.writer.now) why c.play_next.new.engine.network.newest
     (g.W.Write.contents c.finish-in-Stops.new.writer) =
     λ why le. (fault_breaks_last g.J.JournalId.bounds c.args.first c.args.line.now.items
-    (g.R.Read.remaining c.args.reader.now) (g.W.Write.contents c.args.writer.now) nx.found nx.text (g.R.Read.remaining c.play_next.new.reader) (g.W.Write.contents c.lines.writer) c.lines.number c.lines.engine
+    (g.R.Read.remaining c.args.reader.now) (g.W.Write.contents c.args.writer.now) nx.found nx.text
+    (g.R.Read.remaining c.play_next.new.reader) (g.W.Write.contents c.lines.writer) c.lines.number c.lines.engine
     on c.play_next.new.engine c.lines.invariant.0 c.in-Stops.cause goes fits le why
     (g.W.Write.contents c.write_fault.new.writer) (g.W.Write.contents c.finish-in-Stops.new.writer)
     c.in_ok-write_fault-in-Stops.ensures.all c.finish-in-Stops.ensures.kept) in
@@ -239,7 +251,8 @@ returns-in-Stops-clause-kept g c =
     let nx = c.in_ok-play_next.ensures.turned in
     let goes : Goes g.J.JournalId.bounds c.lines.engine c.play_next.new.engine
     (FoundTurned g.J.JournalId.bounds (c.lines.number
-    + 1) nx.found nx.text (turned.Stops c.in-Stops.cause) c.lines.engine c.play_next.new.engine) = rw c.in-Stops.is at nx.goes in
+    + 1) nx.found nx.text (turned.Stops c.in-Stops.cause) c.lines.engine c.play_next.new.engine) = rw c.in-Stops.is at
+    nx.goes in
     kept_after g.J.JournalId.bounds c.lines.number c.lines.engine c.play_next.new.engine c.lines.invariant.0 _ goes
     c.lines.invariant.1
 
@@ -252,7 +265,8 @@ returns-in-Stops-clause-ends g c =
     (g.R.Read.remaining c.play_next.new.reader) c.lines.invariant.2 nx.ahead in
     let goes : Goes g.J.JournalId.bounds c.lines.engine c.play_next.new.engine
     (FoundTurned g.J.JournalId.bounds (c.lines.number
-    + 1) nx.found nx.text (turned.Stops c.in-Stops.cause) c.lines.engine c.play_next.new.engine) = rw c.in-Stops.is at nx.goes in
+    + 1) nx.found nx.text (turned.Stops c.in-Stops.cause) c.lines.engine c.play_next.new.engine) = rw c.in-Stops.is at
+    nx.goes in
     let fits : FitsFound nx.found (turned.Stops c.in-Stops.cause) =
     rw c.in-Stops.is at nx.fits in
     λ le. fault_ends g.J.JournalId.bounds c.args.first c.args.line.now.items (g.R.Read.remaining c.args.reader.now)
@@ -305,7 +319,8 @@ lines-preserved g c =
           goes le c.args.engine.now.network c.lines.invariant.3,
       λ first. numbers_next g.J.JournalId.bounds c.args.first c.args.line.now.items
           (g.R.Read.remaining c.args.reader.now) (g.W.Write.contents c.args.writer.now) nx.found nx.text
-          (g.R.Read.remaining c.play_next.new.reader) (g.W.Write.contents c.lines.writer) c.lines.number c.lines.engine
+          (g.R.Read.remaining c.play_next.new.reader) (g.W.Write.contents c.lines.writer) c.lines.number
+          c.lines.engine
           c.play_next.new.engine c.lines.invariant.0 c.in-Goes.reply goes fits (g.W.Write.contents
           c.write_reply.new.writer) c.in_ok-write_reply-in-Goes.ensures.all
           (λ le. traced_on g.J.JournalId.bounds c.lines.number c.lines.engine c.play_next.new.engine
@@ -313,7 +328,8 @@ lines-preserved g c =
           c.play_next.new.line.items c.count_steps.result c.count_steps.ensures
           (option_map (λ v. v.items) c.lines.numbers) (option_map (λ v. v.items) c.note_line.new.numbers)
           c.note_line.ensures
-          (numbers_found g.J.JournalId.bounds c.args.first c.args.line.now.items (g.R.Read.remaining c.args.reader.now)
+          (numbers_found g.J.JournalId.bounds c.args.first c.args.line.now.items
+          (g.R.Read.remaining c.args.reader.now)
           (g.W.Write.contents c.args.writer.now) c.lines.found c.lines.line.items (g.R.Read.remaining c.lines.reader)
           (g.W.Write.contents c.lines.writer) c.lines.number c.lines.engine nx.found nx.text
           (g.R.Read.remaining c.play_next.new.reader) (option_map (λ v. v.items) c.lines.numbers) nx.ahead

@@ -40,7 +40,8 @@ finish_in-requires g c =
     let x : SlotContent = c.index_mut.result.now in
     let lt : k < length slots = subst (λ (ps : List SlotContent). k
     < length ps) c.deref.ensures.value c.in-Some.ensures.live.0 in
-    let there : slice_get slots k ≡ Some x = slice_get-get_or slots k x lt ∙ ap Some (sym c.index_mut.ensures.value) in
+    let there : slice_get slots k ≡ Some x = slice_get-get_or slots k x lt ∙ ap Some (sym c.index_mut.ensures.value)
+    in
     let (_, live, is) = c.in-Some.ensures.live in
     let at : slice_get slots k ≡ Some (Live live) = subst (λ (ps : List SlotContent). slice_get ps k
     ≡ Some (Live live)) c.deref.ensures.value is in
@@ -76,7 +77,8 @@ returns-in_default-finish_in g c =
     record {
       goes = subst (λ (o : Held). Goes bounds o new (Turned bounds (step.Act name op.Finish) (Err cause.Order) o new))
           c.self.view_is
-          (step_unfinished bounds old name k live at (there ∙ ap Some was) ready new t (slice_set old.slots k Lent) refl
+          (step_unfinished bounds old name k live at (there ∙ ap Some was) ready new t (slice_set old.slots k Lent)
+          refl
           (ap (λ z. slice_set old.slots k z) is ∙ sym (set-set old.slots k Lent (Live t))) refl refl ends state acts);
     }
 
@@ -109,9 +111,11 @@ returns g c =
     let o = c.in-Some-finish_in.outcome in
     let (live, seat, was, is, ends, acts) = c.in-Some-finish_in.ensures.ended in
     record {
-      goes = subst (λ (x : Held). Goes bounds x new (Turned bounds (step.Act name op.Finish) (Ok (reply.Ended o)) x new))
+      goes = subst (λ (x : Held). Goes bounds x new (Turned bounds (step.Act name op.Finish) (Ok (reply.Ended o)) x
+          new))
           c.self.view_is
-          (step_finished bounds old name k live at (there ∙ ap Some was) ready new seat (slice_set old.slots k Lent) refl
+          (step_finished bounds old name k live at (there ∙ ap Some was) ready new seat (slice_set old.slots k Lent)
+          refl
           (ap (λ z. slice_set old.slots k z) is ∙ sym (set-set old.slots k Lent (Free seat))) refl
           (renamed s.names c.remove.new.self name None
           (btree_map_updates_text name s.names c.remove.new.self None c.remove.ensures.updates)) o ends acts);
