@@ -16,6 +16,7 @@ pub on_answer-requires-clause-may : goal.on_answer-requires-clause-may
 on_answer-requires-clause-may g c = (
   ap (λ (w : Working). w.going) c.set_state.ensures,
   ap (λ (w : Working). w.faulted) c.set_state.ensures ∙ ap (λ (w : Working). w.faulted) c.hear.ensures.job
+      ∙ ap (λ (w : Working). w.faulted) c.note_stage.ensures
       ∙ ap (λ (w : Working). w.faulted) c.result_of-result.ensures.job ∙ c.requires.may.1,
 )
 
@@ -43,4 +44,5 @@ set_state-requires-clause-own g c =
     c.result_of-result.ensures.own in
     let entered = later_entered source job line c.args.self.now.left es c.requires.later own in
     subst (λ (w : Working). AreEntered source w.number w.left es) (sym c.hear.ensures.job)
-    (subst (λ (w : Working). AreEntered source w.number w.left es) (sym c.result_of-result.ensures.job) entered)
+    (subst (λ (w : Working). AreEntered source w.number w.left es) (sym c.note_stage.ensures)
+    (subst (λ (w : Working). AreEntered source w.number w.left es) (sym c.result_of-result.ensures.job) entered))
