@@ -2,16 +2,15 @@
 use crate::calls::Op::{
     Abort, Begin, Collect, Commit, Declare, Draw, Finish, Get, HeartBeat, Prewrite, Put, Scan, Skip,
 };
+use crate::harness::Step;
 use crate::harness::Who::{A, B};
-use crate::harness::{Step, played};
 use crate::scenarios::Scenario;
-use std::test::Fail;
 use tx_harness::Delivery::{Lose, LoseReply, Plain, Refuse};
 use tx_types::Mode::{Async, TwoPhase};
 
 // A scan whose second region is refused memory has no rows; the lost reply of the first ends it
 // too.
-const SECOND_REGION_OF_A_SCAN: [Step; 16] = [
+const SECOND_REGION_OF_A_SCAN: &[Step] = &[
     (A, Begin, Plain, "start", 1),
     (A, Put(b"1", b"2"), Plain, "ok", 0),
     (A, Put(b"4", b"5"), Plain, "ok", 0),
@@ -31,7 +30,7 @@ const SECOND_REGION_OF_A_SCAN: [Step; 16] = [
 ];
 
 // The outcome is unknown, and why is told.
-const PREWRITE: [Step; 5] = [
+const PREWRITE: &[Step] = &[
     (A, Begin, Plain, "start", 1),
     (A, Put(b"1", b"5"), Plain, "ok", 0),
     (A, Declare(TwoPhase, None), Plain, "ok", 0),
@@ -40,7 +39,7 @@ const PREWRITE: [Step; 5] = [
 ];
 
 // So it is after a commit.
-const COMMIT: [Step; 7] = [
+const COMMIT: &[Step] = &[
     (A, Begin, Plain, "start", 1),
     (A, Put(b"1", b"5"), Plain, "ok", 0),
     (A, Declare(TwoPhase, None), Plain, "ok", 0),
@@ -51,7 +50,7 @@ const COMMIT: [Step; 7] = [
 ];
 
 // And after the check that an abort sends.
-const ABORT: [Step; 5] = [
+const ABORT: &[Step] = &[
     (A, Begin, Plain, "start", 1),
     (A, Put(b"1", b"5"), Plain, "ok", 0),
     (A, Declare(Async, None), Plain, "ok", 0),
@@ -60,7 +59,7 @@ const ABORT: [Step; 5] = [
 ];
 
 // The last cause is the one that is told.
-const LAST_CAUSE: [Step; 10] = [
+const LAST_CAUSE: &[Step] = &[
     (A, Begin, Plain, "start", 1),
     (B, Begin, Plain, "start", 2),
     (B, Collect(2), Plain, "collected", 0),
@@ -74,7 +73,7 @@ const LAST_CAUSE: [Step; 10] = [
 ];
 
 // It is cleared by an answer that decides nothing.
-const CLEARED_BY_A_REFUSAL: [Step; 12] = [
+const CLEARED_BY_A_REFUSAL: &[Step] = &[
     (B, Begin, Plain, "start", 1),
     (B, Put(b"1", b"9"), Plain, "ok", 0),
     (B, Declare(TwoPhase, None), Plain, "ok", 0),
@@ -91,7 +90,7 @@ const CLEARED_BY_A_REFUSAL: [Step; 12] = [
 
 // A collection ends at its second region, which is refused memory, so the safe point of the first
 // alone has risen. The cause E7 is cleared too: the lock is there, and a check finds it.
-const CLEARED_BY_A_CHECK: [Step; 13] = [
+const CLEARED_BY_A_CHECK: &[Step] = &[
     (A, Begin, Plain, "start", 1),
     (A, Put(b"1", b"5"), Plain, "ok", 0),
     (A, Put(b"4", b"6"), Plain, "ok", 0),
@@ -108,7 +107,7 @@ const CLEARED_BY_A_CHECK: [Step; 13] = [
 ];
 
 // Reads and heartbeats that are lost or refused are no cause, and clear none.
-const READS_ARE_NO_CAUSE: [Step; 11] = [
+const READS_ARE_NO_CAUSE: &[Step] = &[
     (A, Begin, Plain, "start", 1),
     (A, Put(b"1", b"5"), Plain, "ok", 0),
     (A, Declare(TwoPhase, None), Plain, "ok", 0),
@@ -124,7 +123,7 @@ const READS_ARE_NO_CAUSE: [Step; 11] = [
 
 // A region is refused memory for the check of a live transaction's primary: its lock stays, and
 // Collect tells of it. Asked again, the collector goes through.
-const LOCK_REMAINS: [Step; 11] = [
+const LOCK_REMAINS: &[Step] = &[
     (A, Begin, Plain, "start", 1),
     (A, Put(b"4", b"5"), Plain, "ok", 0),
     (A, Declare(TwoPhase, None), Plain, "ok", 0),
@@ -140,7 +139,7 @@ const LOCK_REMAINS: [Step; 11] = [
 
 // A region is refused memory for the safe point, for the list of locks, and for the collection.
 // Each time it may be asked again.
-const COLLECTION: [Step; 8] = [
+const COLLECTION: &[Step] = &[
     (A, Begin, Plain, "start", 1),
     (B, Begin, Plain, "start", 2),
     (B, Collect(2), Refuse, "E12", 0),
@@ -151,23 +150,15 @@ const COLLECTION: [Step; 8] = [
     (B, Collect(2), Plain, "collected", 0),
 ];
 
-const SCENARIOS: [Scenario; 10] = [
-    ("second region of a scan", &SECOND_REGION_OF_A_SCAN),
-    ("prewrite", &PREWRITE),
-    ("commit", &COMMIT),
-    ("abort", &ABORT),
-    ("last cause", &LAST_CAUSE),
-    ("cleared by a refusal", &CLEARED_BY_A_REFUSAL),
-    ("cleared by a check", &CLEARED_BY_A_CHECK),
-    ("reads are no cause", &READS_ARE_NO_CAUSE),
-    ("lock remains", &LOCK_REMAINS),
-    ("collection", &COLLECTION),
+pub const SCENARIOS: &[Scenario] = &[
+    ("second region of a scan", SECOND_REGION_OF_A_SCAN),
+    ("prewrite", PREWRITE),
+    ("commit", COMMIT),
+    ("abort", ABORT),
+    ("last cause", LAST_CAUSE),
+    ("cleared by a refusal", CLEARED_BY_A_REFUSAL),
+    ("cleared by a check", CLEARED_BY_A_CHECK),
+    ("reads are no cause", READS_ARE_NO_CAUSE),
+    ("lock remains", LOCK_REMAINS),
+    ("collection", COLLECTION),
 ];
-
-#[test]
-fn refused(rt: HostRuntime) -> Result<(), Fail> {
-    for (name, steps) in SCENARIOS {
-        assert_eq!(rt; played(&rt, rt.alloc(), steps), Some(steps.len()), "{name}");
-    }
-    Ok(())
-}

@@ -3,15 +3,14 @@
 //! asks again.
 
 use crate::calls::Op::{Begin, Declare, Get, Orphan, Prewrite, Put, Resolve, Skip};
+use crate::harness::Step;
 use crate::harness::Who::{A, B};
-use crate::harness::{Step, played};
 use crate::scenarios::Scenario;
-use std::test::Fail;
 use tx_harness::Delivery::{Lose, LoseReply, Plain, Refuse};
 use tx_types::Mode::Async;
 
 // The check of the primary, that of the key that is missing, and the fate of the lock that was met.
-const EACH_LOST: [Step; 17] = [
+const EACH_LOST: &[Step] = &[
     (A, Begin, Plain, "start", 1),
     (A, Put(b"1", b"5"), Plain, "ok", 0),
     (A, Put(b"4", b"6"), Plain, "ok", 0),
@@ -32,7 +31,7 @@ const EACH_LOST: [Step; 17] = [
 ];
 
 // Their replies.
-const EACH_REPLY_LOST: [Step; 15] = [
+const EACH_REPLY_LOST: &[Step] = &[
     (A, Begin, Plain, "start", 1),
     (A, Put(b"1", b"5"), Plain, "ok", 0),
     (A, Put(b"4", b"6"), Plain, "ok", 0),
@@ -51,7 +50,7 @@ const EACH_REPLY_LOST: [Step; 15] = [
 ];
 
 // A region is refused memory for each of them.
-const EACH_REFUSED: [Step; 16] = [
+const EACH_REFUSED: &[Step] = &[
     (A, Begin, Plain, "start", 1),
     (A, Put(b"1", b"5"), Plain, "ok", 0),
     (A, Put(b"4", b"6"), Plain, "ok", 0),
@@ -71,7 +70,7 @@ const EACH_REFUSED: [Step; 16] = [
 ];
 
 // Of a transaction that has fallen back: the check that is forced, and then the fate.
-const FORCED_CHECK_LOST: [Step; 18] = [
+const FORCED_CHECK_LOST: &[Step] = &[
     (A, Begin, Plain, "start", 1),
     (A, Put(b"1", b"5"), Plain, "ok", 0),
     (A, Put(b"4", b"6"), Plain, "ok", 0),
@@ -94,7 +93,7 @@ const FORCED_CHECK_LOST: [Step; 18] = [
 
 // Nothing of the transaction stands on its primary: while the met lock lives the reader waits; then
 // a rollback is left there.
-const NOT_FOUND: [Step; 7] = [
+const NOT_FOUND: &[Step] = &[
     (A, Orphan(b"1", b"4"), Plain, "prewritten", 0),
     (B, Begin, Plain, "start", 3),
     (B, Get(b"4"), Plain, "E1", 4),
@@ -104,18 +103,10 @@ const NOT_FOUND: [Step; 7] = [
     (B, Get(b"4"), Plain, "none", 0),
 ];
 
-const SCENARIOS: [Scenario; 5] = [
-    ("each lost", &EACH_LOST),
-    ("each reply lost", &EACH_REPLY_LOST),
-    ("each refused", &EACH_REFUSED),
-    ("forced check lost", &FORCED_CHECK_LOST),
-    ("not found", &NOT_FOUND),
+pub const SCENARIOS: &[Scenario] = &[
+    ("each lost", EACH_LOST),
+    ("each reply lost", EACH_REPLY_LOST),
+    ("each refused", EACH_REFUSED),
+    ("forced check lost", FORCED_CHECK_LOST),
+    ("not found", NOT_FOUND),
 ];
-
-#[test]
-fn resolver(rt: HostRuntime) -> Result<(), Fail> {
-    for (name, steps) in SCENARIOS {
-        assert_eq!(rt; played(&rt, rt.alloc(), steps), Some(steps.len()), "{name}");
-    }
-    Ok(())
-}

@@ -6,14 +6,14 @@ use crate::calls::Op::{
     Begin, Commit, Declare, Delete, Get, Insert, Lock, Prewrite, Put, Resolve, Scan,
 };
 use crate::harness::Who::{A, B};
-use crate::harness::{Step, played, refuses_first};
+use crate::harness::{Step, refuses_first};
 use crate::scenarios::Scenario;
 use std::test::Fail;
 use tx_harness::Delivery::Plain;
 use tx_types::Mode::{Async, TwoPhase};
 
 // A read meets a lock, which is resolved and passed by.
-const MET_LOCK: [Step; 9] = [
+const MET_LOCK: &[Step] = &[
     (A, Begin, Plain, "start", 1),
     (A, Put(b"1", b"5"), Plain, "ok", 0),
     (A, Put(b"2", b"6"), Plain, "ok", 0),
@@ -26,7 +26,7 @@ const MET_LOCK: [Step; 9] = [
 ];
 
 // A prewrite meets one.
-const PREWRITE_MEETS_LOCK: [Step; 8] = [
+const PREWRITE_MEETS_LOCK: &[Step] = &[
     (A, Begin, Plain, "start", 1),
     (A, Put(b"1", b"5"), Plain, "ok", 0),
     (A, Declare(TwoPhase, None), Plain, "ok", 0),
@@ -38,7 +38,7 @@ const PREWRITE_MEETS_LOCK: [Step; 8] = [
 ];
 
 // What only changes the buffer sends nothing.
-const BUFFER: [Step; 7] = [
+const BUFFER: &[Step] = &[
     (A, Begin, Plain, "start", 1),
     (A, Put(b"1", b"2"), Plain, "ok", 0),
     (A, Insert(b"2", b"3"), Plain, "ok", 0),
@@ -49,7 +49,7 @@ const BUFFER: [Step; 7] = [
 ];
 
 // A scan takes the room for the rows of its second region, and of its third, before it asks there.
-const SCANS: [Step; 16] = [
+const SCANS: &[Step] = &[
     (A, Begin, Plain, "start", 1),
     (A, Put(b"1", b"2"), Plain, "ok", 0),
     (A, Put(b"4", b"5"), Plain, "ok", 0),
@@ -68,20 +68,12 @@ const SCANS: [Step; 16] = [
     (B, Scan(b"1", b"9", 2), Plain, "rows", 1245),
 ];
 
-const SCENARIOS: [Scenario; 4] = [
-    ("scans", &SCANS),
-    ("met lock", &MET_LOCK),
-    ("prewrite meets lock", &PREWRITE_MEETS_LOCK),
-    ("buffer", &BUFFER),
+pub const SCENARIOS: &[Scenario] = &[
+    ("scans", SCANS),
+    ("met lock", MET_LOCK),
+    ("prewrite meets lock", PREWRITE_MEETS_LOCK),
+    ("buffer", BUFFER),
 ];
-
-#[test]
-fn steps_come_out_as_they_say(rt: HostRuntime) -> Result<(), Fail> {
-    for (name, steps) in SCENARIOS {
-        assert_eq!(rt; played(&rt, rt.alloc(), steps), Some(steps.len()), "{name}");
-    }
-    Ok(())
-}
 
 #[test]
 fn refusals_send_nothing(rt: HostRuntime) -> Result<(), Fail> {

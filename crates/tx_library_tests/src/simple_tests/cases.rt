@@ -54,7 +54,7 @@ const REFUSED: (&str, &str) = ("aborted", "refused");
 
 const READ_REFUSED: (&str, &str) = ("read-only", "refused");
 
-pub const CASES: [Case; 25] = [
+pub const CASES: &[Case] = &[
     // It goes well at once.
     Case(Empty, PLAIN, (Put(1), TwoPhase), 0, DONE, 1, 1),
     Case(Empty, PLAIN, (PutBoth(1), Async), 0, DONE, 1, 1),

@@ -1,6 +1,6 @@
 //! The rows of CheckTxnStatus. A lock of the transaction that started at 5 is expired at 16.
 use crate::table_tests::asked::Ask::{self, Check, CheckForced, CheckOrRollBack};
-use crate::table_tests::rows::{Row, first_wrong};
+use crate::table_tests::rows::Row;
 use crate::table_tests::shown::Word::*;
 use crate::table_tests::shown::{BARE, BELOW, FUTURE, NOT_FOUND, ROLLED_BACK, Short};
 use crate::table_tests::states::*;
@@ -20,7 +20,7 @@ const EXPIRED: Ask = Check(b'k', 5, 5, 16);
 
 const WANTED: Ask = CheckOrRollBack(b'k', 5, 6, 16);
 
-const ROWS: [Row; 20] = [
+pub const ROWS: &[Row] = &[
     (COLLECTED, EXPIRED, BELOW, BARE),
     (OWN, Check(b'k', 5, 21, 15), FUTURE, LOCK_6),
     (ASYNC, EXPIRED, TOLD_7, LOCK_7),
@@ -42,8 +42,3 @@ const ROWS: [Row; 20] = [
     (FREE, EXPIRED, NOT_FOUND, BARE),
     (OTHERS, EXPIRED, NOT_FOUND, LOCK_5),
 ];
-
-#[test]
-fn rows_of_check_txn_status(rt: HostRuntime) {
-    assert_eq!(rt; first_wrong(rt.alloc(), &ROWS), None);
-}

@@ -3,7 +3,7 @@ use crate::table_tests::asked::Ask::{
     self, BatchRollback, Collect, Commit, Get, LocksBelow, Prewrite, RaiseSafe,
 };
 use crate::table_tests::asked::What::*;
-use crate::table_tests::rows::{RegionRow, Row, first_wrong, first_wrong_in_region};
+use crate::table_tests::rows::{RegionRow, Row};
 use crate::table_tests::shown::Word::*;
 use crate::table_tests::shown::{BARE, FUTURE, RAISED, Short};
 use crate::table_tests::states::*;
@@ -11,7 +11,7 @@ use crate::table_tests::states::*;
 // A read at 6.
 const READ: &[Ask] = &[Get(b'k', 6, 0)];
 
-const RAISE_SAFE: [RegionRow; 5] = [
+pub const RAISE_SAFE: &[RegionRow] = &[
     (SAFE, RaiseSafe(21), FUTURE, [0, 3, 0]),
     (SAFE, RaiseSafe(2), (BelowSafePoint, 3, 0), [0, 3, 0]),
     (SAFE, RaiseSafe(3), RAISED, [0, 3, 0]),
@@ -22,7 +22,7 @@ const RAISE_SAFE: [RegionRow; 5] = [
 // Locks on `a` by 3 and on `c` by 7.
 const TWO_LOCKS: &[Ask] = &[Prewrite(b'c', 7, Lock), Prewrite(b'a', 3, Put(1))];
 
-const LOCKS_BELOW: [RegionRow; 5] = [
+pub const LOCKS_BELOW: &[RegionRow] = &[
     (FREE, LocksBelow(20), (Locks, 0, 0), [0, 0, 0]),
     (TWO_LOCKS, LocksBelow(3), (Locks, 0, 0), [0, 0, 0]),
     (TWO_LOCKS, LocksBelow(4), (Locks, 1, 3), [0, 0, 0]),
@@ -44,7 +44,7 @@ const LATER_LOCK: &[Ask] = &[Prewrite(b'a', 5, Lock), RaiseSafe(5)];
 
 const NONE_GO: Short = (Collected, 0, 0);
 
-const COLLECT: [RegionRow; 5] = [
+pub const COLLECT: &[RegionRow] = &[
     (SAFE_5, Collect(4), (BelowSafePoint, 5, 0), [0, 5, 0]),
     (SAFE_5, Collect(6), (BelowSafePoint, 5, 0), [0, 5, 0]),
     (REMAINING, Collect(5), (LocksRemain, 3, 4), [0, 5, 0]),
@@ -96,29 +96,9 @@ const TWO_AND_LONG: [u64; 6] = [0, 0, 2, 5, 0, 1];
 
 const TWO: [u64; 6] = [0, 0, 2, 5, 0, 0];
 
-const COLLECT_ON_KEY: [Row; 4] = [
+pub const COLLECT_ON_KEY: &[Row] = &[
     (TWO_PUTS, Collect(5), (Collected, 1, 1), TWO_AND_LONG),
     (DELETED, Collect(5), (Collected, 2, 1), BARE),
     (PUT_AT_SAFE, Collect(5), (Collected, 1, 0), AT_5),
     (PUT_AND_OTHERS, Collect(5), (Collected, 2, 0), TWO),
 ];
-
-#[test]
-fn rows_of_raise_safe(rt: HostRuntime) {
-    assert_eq!(rt; first_wrong_in_region(rt.alloc(), &RAISE_SAFE), None);
-}
-
-#[test]
-fn rows_of_locks_below(rt: HostRuntime) {
-    assert_eq!(rt; first_wrong_in_region(rt.alloc(), &LOCKS_BELOW), None);
-}
-
-#[test]
-fn rows_of_collect(rt: HostRuntime) {
-    assert_eq!(rt; first_wrong_in_region(rt.alloc(), &COLLECT), None);
-}
-
-#[test]
-fn rows_of_collect_on_a_key(rt: HostRuntime) {
-    assert_eq!(rt; first_wrong(rt.alloc(), &COLLECT_ON_KEY), None);
-}

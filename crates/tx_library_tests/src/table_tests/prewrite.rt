@@ -1,7 +1,7 @@
 //! The rows of Prewrite.
 use crate::table_tests::asked::Ask::{self, Async, BatchRollback, Commit, Get, Prewrite};
 use crate::table_tests::asked::What::*;
-use crate::table_tests::rows::{RegionRow, Row, first_wrong, first_wrong_in_region};
+use crate::table_tests::rows::{RegionRow, Row};
 use crate::table_tests::shown::Word::*;
 use crate::table_tests::shown::{ALREADY_ROLLED_BACK, BARE, EXISTS, FUTURE, Short};
 use crate::table_tests::states::*;
@@ -26,7 +26,7 @@ const LOCK_ON_5: [u64; 6] = [6, 10, 1, 5, 0, 0];
 
 const AT_10: [u64; 6] = [0, 0, 1, 10, 0, 0];
 
-const ROWS: [Row; 20] = [
+pub const ROWS: &[Row] = &[
     (SAFE, Prewrite(b'k', 2, Lock), (BelowSafePoint, 3, 0), BARE),
     (FREE, Prewrite(b'k', 21, Lock), FUTURE, BARE),
     (OWN, PLAIN, LOCKED, LOCK_6),
@@ -48,11 +48,6 @@ const ROWS: [Row; 20] = [
     (READ, Async(b'k', 5, 12), (Prewritten, 12, 0), LOCK_12),
     (READ, Async(b'k', 5, 11), LOCKED, LOCK_6),
 ];
-
-#[test]
-fn rows_of_prewrite(rt: HostRuntime) {
-    assert_eq!(rt; first_wrong(rt.alloc(), &ROWS), None);
-}
 
 const INSERT: Ask = Prewrite(b'k', 5, Insert(1));
 
@@ -77,7 +72,7 @@ const DELETED: &[Ask] = &[
 ];
 
 // An insert reads at its start, 5, where it finds a value, and where its lock is put.
-const INSERTS: [RegionRow; 12] = [
+pub const INSERTS: &[RegionRow] = &[
     (FREE, INSERT, LOCKED, [5, 0, 0]),
     (READ, INSERT, LOCKED, [11, 0, 0]),
     (VALUE, INSERT, EXISTS, [5, 0, 0]),
@@ -91,8 +86,3 @@ const INSERTS: [RegionRow; 12] = [
     (UNDONE, INSERT, ALREADY_ROLLED_BACK, [0, 0, 0]),
     (DONE, INSERT, (AlreadyCommitted, 8, 0), [0, 0, 0]),
 ];
-
-#[test]
-fn rows_of_inserts(rt: HostRuntime) {
-    assert_eq!(rt; first_wrong_in_region(rt.alloc(), &INSERTS), None);
-}

@@ -1,7 +1,7 @@
 //! The rows of Get and Scan.
 use crate::table_tests::asked::Ask::{self, BatchRollback, Commit, Get, Prewrite, Scan};
 use crate::table_tests::asked::What::*;
-use crate::table_tests::rows::{RegionRow, first_wrong_in_region};
+use crate::table_tests::rows::RegionRow;
 use crate::table_tests::shown::Word::*;
 use crate::table_tests::shown::{FUTURE, NOTHING, Short};
 use crate::table_tests::states::*;
@@ -34,7 +34,7 @@ const BELOW_3: Short = (BelowSafePoint, 3, 0);
 
 const MET: Short = (KeyIsLocked, 5, 6);
 
-const GET: [RegionRow; 21] = [
+pub const GET: &[RegionRow] = &[
     (SAFE, Get(b'k', 2, 0), BELOW_3, [0, 3, 0]),
     (SAFE, Get(b'k', 3, 0), NOTHING, [3, 3, 0]),
     (FREE, Get(b'k', 21, 0), FUTURE, [0, 0, 0]),
@@ -83,7 +83,7 @@ const NO_ROW: Short = (Rows, 0, 0);
 
 const BLOCKED: Short = (KeyIsLocked, 6, 7);
 
-const SCAN: [RegionRow; 15] = [
+pub const SCAN: &[RegionRow] = &[
     (SAFE, Scan(b'a', b'z', 2, 9, 0), BELOW_3, [0, 3, 0]),
     (SAFE, Scan(b'a', b'z', 3, 9, 0), NO_ROW, [3, 3, 0]),
     (KEYS, Scan(b'a', b'z', 21, 9, 0), FUTURE, [0, 0, 0]),
@@ -100,13 +100,3 @@ const SCAN: [RegionRow; 15] = [
     (KEYS, Scan(b'z', b'a', 4, 9, 0), NO_ROW, [4, 0, 0]),
     (KEYS, Scan(b'a', b'z', 4, 0, 0), NO_ROW, [4, 0, 0]),
 ];
-
-#[test]
-fn rows_of_get(rt: HostRuntime) {
-    assert_eq!(rt; first_wrong_in_region(rt.alloc(), &GET), None);
-}
-
-#[test]
-fn rows_of_scan(rt: HostRuntime) {
-    assert_eq!(rt; first_wrong_in_region(rt.alloc(), &SCAN), None);
-}

@@ -3,7 +3,7 @@
 use crate::table_tests::asked::Ask::{
     self, BatchRollback, CheckSecondaryLocks, Commit, ResolveLock, TxnHeartBeat,
 };
-use crate::table_tests::rows::{Row, first_wrong};
+use crate::table_tests::rows::Row;
 use crate::table_tests::shown::Word::*;
 use crate::table_tests::shown::{
     ALREADY_ROLLED_BACK, BARE, BELOW, LOCK_NOT_FOUND, MISSING, RESOLVED, ROLLED_BACK, Short,
@@ -18,7 +18,7 @@ const COMMIT_8: Ask = Commit(b'k', 5, 8);
 
 const COMMITTED_8: Short = (Committed, 8, 0);
 
-const COMMIT: [Row; 12] = [
+pub const COMMIT: &[Row] = &[
     (COLLECTED, COMMIT_8, BELOW, BARE),
     (PUSHED, Commit(b'k', 5, 6), (CommitTsExpired, 7, 0), LOCK_7),
     (PUSHED, Commit(b'k', 5, 7), (Committed, 7, 0), AT_7),
@@ -35,7 +35,7 @@ const COMMIT: [Row; 12] = [
 
 const ROLL_BACK: Ask = BatchRollback(b'k', 5);
 
-const BATCH_ROLLBACK: [Row; 10] = [
+pub const BATCH_ROLLBACK: &[Row] = &[
     (COLLECTED, ROLL_BACK, BELOW, BARE),
     (OWN, ROLL_BACK, ROLLED_BACK, AT_5),
     (OWN_LONG, ROLL_BACK, ROLLED_BACK, AT_5),
@@ -50,7 +50,7 @@ const BATCH_ROLLBACK: [Row; 10] = [
 
 const LIVE_20: Ask = TxnHeartBeat(b'k', 5, 20);
 
-const TXN_HEART_BEAT: [Row; 6] = [
+pub const TXN_HEART_BEAT: &[Row] = &[
     (COLLECTED, LIVE_20, BELOW, BARE),
     (OWN, LIVE_20, (Ttl, 20, 0), LIVES_LONGER),
     (OWN, TxnHeartBeat(b'k', 5, 5), (Ttl, 10, 0), LOCK_6),
@@ -61,7 +61,7 @@ const TXN_HEART_BEAT: [Row; 6] = [
 
 const ASK_LOCK: Ask = CheckSecondaryLocks(b'k', 5);
 
-const CHECK_SECONDARY_LOCKS: [Row; 9] = [
+pub const CHECK_SECONDARY_LOCKS: &[Row] = &[
     (COLLECTED, ASK_LOCK, BELOW, BARE),
     (ASYNC, ASK_LOCK, (Locked, 5, 7), LOCK_7),
     (OWN, ASK_LOCK, (Locked, 5, 6), LOCK_6),
@@ -77,7 +77,7 @@ const SETTLE_8: Ask = ResolveLock(b'k', 5, 8);
 
 const SETTLE_ABORTED: Ask = ResolveLock(b'k', 5, 0);
 
-const RESOLVE_LOCK: [Row; 12] = [
+pub const RESOLVE_LOCK: &[Row] = &[
     (COLLECTED, SETTLE_8, BELOW, BARE),
     (FREE, SETTLE_8, RESOLVED, BARE),
     (OTHERS, SETTLE_ABORTED, RESOLVED, LOCK_5),
@@ -96,28 +96,3 @@ const RESOLVE_LOCK: [Row; 12] = [
     (OWN_LONG, SETTLE_8, RESOLVED, LONG_8),
     (OWN_AND_ROLLBACK, SETTLE_8, RESOLVED, MARK_8),
 ];
-
-#[test]
-fn rows_of_commit(rt: HostRuntime) {
-    assert_eq!(rt; first_wrong(rt.alloc(), &COMMIT), None);
-}
-
-#[test]
-fn rows_of_batch_rollback(rt: HostRuntime) {
-    assert_eq!(rt; first_wrong(rt.alloc(), &BATCH_ROLLBACK), None);
-}
-
-#[test]
-fn rows_of_txn_heart_beat(rt: HostRuntime) {
-    assert_eq!(rt; first_wrong(rt.alloc(), &TXN_HEART_BEAT), None);
-}
-
-#[test]
-fn rows_of_check_secondary_locks(rt: HostRuntime) {
-    assert_eq!(rt; first_wrong(rt.alloc(), &CHECK_SECONDARY_LOCKS), None);
-}
-
-#[test]
-fn rows_of_resolve_lock(rt: HostRuntime) {
-    assert_eq!(rt; first_wrong(rt.alloc(), &RESOLVE_LOCK), None);
-}
