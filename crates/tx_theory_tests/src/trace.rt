@@ -33,16 +33,33 @@ fn key(rt: &HostRuntime, name: &[u8]) -> Result<Key, Fault> {
     Key::new(rt.alloc(), name)
 }
 
-fn put(rt: &HostRuntime) -> Result<Mutation, Fault> {
-    Ok(Mutation::Put(Value::new(rt.alloc(), b"x")?))
+fn value(rt: &HostRuntime) -> Result<Value, Fault> {
+    Value::new(rt.alloc(), b"x")
 }
 
-fn insert(rt: &HostRuntime) -> Result<Mutation, Fault> {
-    Ok(Mutation::Insert(Value::new(rt.alloc(), b"x")?))
+fn mutation(rt: &HostRuntime, inserts: bool) -> Result<Mutation, Fault> {
+    if inserts {
+        return Ok(Mutation::Insert(value(rt)?));
+    }
+    Ok(Mutation::Put(value(rt)?))
+}
+
+fn change(rt: &HostRuntime, name: &[u8], inserts: bool) -> Result<Change, Fault> {
+    let key = key(rt, name)?;
+    let mutation = mutation(rt, inserts)?;
+    Ok(Change { key, mutation })
+}
+
+fn changes(rt: &HostRuntime, names: &[&'static [u8]], inserts: bool) -> Result<Changes, Fault> {
+    let mut changes = Changes::new(rt.alloc());
+    for name in names {
+        changes.push(change(rt, name, inserts)?)?;
+    }
+    Ok(changes)
 }
 
 // The trace does not look at the number that was drawn for it.
-fn declares(start: u64, mode: Mode, changes: Changes) -> Event {
+fn declared(start: u64, mode: Mode, changes: Changes) -> Event {
     Event::Declared(Declaration {
         start: Ts::new(start),
         changes,
@@ -51,33 +68,6 @@ fn declares(start: u64, mode: Mode, changes: Changes) -> Event {
         max_commit: None,
         drawn: Ts::ZERO,
     })
-}
-
-fn declared(
-    rt: &HostRuntime,
-    start: u64,
-    mode: Mode,
-    names: &[&'static [u8]],
-) -> Result<Event, Fault> {
-    let mut changes = Changes::new(rt.alloc());
-    for name in names {
-        changes.push(Change {
-            key: key(rt, name)?,
-            mutation: put(rt)?,
-        })?;
-    }
-    Ok(declares(start, mode, changes))
-}
-
-fn declared_inserts(rt: &HostRuntime, start: u64, names: &[&'static [u8]]) -> Result<Event, Fault> {
-    let mut changes = Changes::new(rt.alloc());
-    for name in names {
-        changes.push(Change {
-            key: key(rt, name)?,
-            mutation: insert(rt)?,
-        })?;
-    }
-    Ok(declares(start, Mode::Async, changes))
 }
 
 fn took(body: Body, answer: Answer) -> Event {
@@ -89,38 +79,51 @@ fn took(body: Body, answer: Answer) -> Event {
     })
 }
 
-fn locked(
+fn prewrite(
     rt: &HostRuntime,
     start: u64,
-    name: &[u8],
-    mutation: Mutation,
-    min: u64,
-) -> Result<Event, Fault> {
+    Change { key, mutation }: Change,
+    primary: Key,
+) -> Result<Body, Fault> {
     let body = Prewrite {
-        key: key(rt, name)?,
+        key,
         mutation,
         start: Ts::new(start),
-        primary: key(rt, b"a")?,
+        primary,
         mode: Mode::Async,
         max_commit: None,
         floor: Ts::ZERO,
         ttl: 10,
         others: Secondaries::new(rt.alloc()),
     };
-    let body = Body::Prewrite(Boxed::new(rt.alloc(), body)?);
+    Ok(Body::Prewrite(Boxed::new(rt.alloc(), body)?))
+}
+
+fn locked(
+    rt: &HostRuntime,
+    start: u64,
+    name: &[u8],
+    inserts: bool,
+    min: u64,
+) -> Result<Event, Fault> {
+    let primary = key(rt, b"a")?;
+    let body = prewrite(rt, start, change(rt, name, inserts)?, primary)?;
     Ok(took(body, Answer::Prewritten(Ts::new(min))))
 }
 
+fn answer_of(rt: &HostRuntime, found: bool) -> Result<Answer, Fault> {
+    if found {
+        return Ok(Answer::Found(value(rt)?));
+    }
+    Ok(Answer::Nothing)
+}
+
 fn read(rt: &HostRuntime, at: u64, name: &[u8], found: bool) -> Result<Event, Fault> {
+    let answer = answer_of(rt, found)?;
     let body = Get {
         key: key(rt, name)?,
         at: Ts::new(at),
         bypass: Starts::new(rt.alloc()),
-    };
-    let answer = if found {
-        Answer::Found(Value::new(rt.alloc(), b"x")?)
-    } else {
-        Answer::Nothing
     };
     Ok(took(Body::Get(body), answer))
 }
@@ -135,42 +138,57 @@ fn committed(rt: &HostRuntime, start: u64, name: &[u8], commit: u64) -> Result<E
     Ok(took(Body::Commit(body), Answer::Committed(Ts::new(commit))))
 }
 
-fn event(rt: &HostRuntime, deed: Deed) -> Result<Event, Fault> {
+// The primary is rolled back.
+fn rolled_back(rt: &HostRuntime, start: u64) -> Result<Event, Fault> {
+    let body = BatchRollback {
+        key: key(rt, b"a")?,
+        start: Ts::new(start),
+    };
+    Ok(took(Body::BatchRollback(body), Answer::RolledBack))
+}
+
+fn missed(rt: &HostRuntime, start: u64, name: &[u8]) -> Result<Event, Fault> {
+    let body = CheckSecondaryLocks {
+        key: key(rt, name)?,
+        start: Ts::new(start),
+    };
+    Ok(took(Body::CheckSecondaryLocks(body), Answer::Missing))
+}
+
+// Of the events that are no request.
+fn of_session(deed: Deed) -> Event {
     match deed {
-        Deed::Draws(ts) => Ok(Event::Drawn {
+        Deed::Draws(ts) => Event::Drawn {
             seat: SeatNo::new(1),
             ts: Ts::new(ts),
-        }),
-        Deed::Begins(start) => Ok(Event::Began(Ts::new(start))),
-        Deed::Declares(start, mode, names) => declared(rt, start, mode, names),
-        Deed::DeclaresInserts(start, names) => declared_inserts(rt, start, names),
-        Deed::Locks(start, name, min) => locked(rt, start, name, put(rt)?, min),
-        Deed::Inserts(start, name, min) => locked(rt, start, name, insert(rt)?, min),
-        Deed::Commits(start, name, commit) => committed(rt, start, name, commit),
-        Deed::RollsBack(start) => {
-            let body = BatchRollback {
-                key: key(rt, b"a")?,
-                start: Ts::new(start),
-            };
-            Ok(took(Body::BatchRollback(body), Answer::RolledBack))
-        }
-        Deed::Misses(start, name) => {
-            let body = CheckSecondaryLocks {
-                key: key(rt, name)?,
-                start: Ts::new(start),
-            };
-            Ok(took(Body::CheckSecondaryLocks(body), Answer::Missing))
-        }
+        },
         Deed::TellsCommit(start, commit) => {
-            let outcome = Outcome::Committed(Ts::new(commit));
-            Ok(Event::Answered(Ts::new(start), outcome))
+            Event::Answered(Ts::new(start), Outcome::Committed(Ts::new(commit)))
         }
-        Deed::TellsAbort(start) => Ok(Event::Answered(Ts::new(start), Outcome::Aborted)),
-        Deed::TellsNothing(start) => Ok(Event::Answered(
-            Ts::new(start),
-            Outcome::Unknown(UnknownCause::Reply),
-        )),
+        Deed::TellsAbort(start) => Event::Answered(Ts::new(start), Outcome::Aborted),
+        Deed::TellsNothing(start) => {
+            Event::Answered(Ts::new(start), Outcome::Unknown(UnknownCause::Reply))
+        }
+        Deed::Begins(start) => Event::Began(Ts::new(start)),
+        _ => Event::Began(Ts::ZERO),
+    }
+}
+
+fn event(rt: &HostRuntime, deed: Deed) -> Result<Event, Fault> {
+    match deed {
+        Deed::Declares(start, mode, names) => {
+            Ok(declared(start, mode, changes(rt, names, false)?))
+        }
+        Deed::DeclaresInserts(start, names) => {
+            Ok(declared(start, Mode::Async, changes(rt, names, true)?))
+        }
+        Deed::Locks(start, name, min) => locked(rt, start, name, false, min),
+        Deed::Inserts(start, name, min) => locked(rt, start, name, true, min),
+        Deed::Commits(start, name, commit) => committed(rt, start, name, commit),
+        Deed::RollsBack(start) => rolled_back(rt, start),
+        Deed::Misses(start, name) => missed(rt, start, name),
         Deed::Reads(at, name, found) => read(rt, at, name, found),
+        other => Ok(of_session(other)),
     }
 }
 
@@ -192,7 +210,10 @@ fn word(step: &Step) -> (&'static str, u64, u64) {
 fn told(rt: &HostRuntime, deeds: &[Deed]) -> Result<Trace, Fault> {
     let mut trace = Trace::new(rt.alloc());
     for deed in deeds {
-        trace.push(&event(rt, *deed)?)?;
+        let event = event(rt, *deed)?;
+        let pushed = trace.push(&event);
+        drop(event);
+        pushed?;
     }
     Ok(trace)
 }

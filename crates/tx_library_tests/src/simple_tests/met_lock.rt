@@ -1,83 +1,76 @@
 //! A lock that a session met is resolved: it is passed by, or gone.
 ghost use Rattle.std.specs.Prelude.{◌≡◌, length};
 
-use crate::calls::get;
-use crate::others;
 use crate::simple_tests::orphan::leave_lock;
-use crate::stores::{open, two_regions};
+use crate::store_tests::sessions::{Client, Site};
+use crate::stores::{open, pair, two_regions};
 use std::alloc::Global;
 use std::marker::Brand;
 use std::sync::Wait;
 use std::test::Fail;
 use tx_cells::{Families, Fresh};
-use tx_client::Session;
 use tx_core::Answer;
 use tx_journal::{JournalId, Opened, Seat};
 use tx_nested::NestedCells;
-use tx_store::{Store, Wire};
 
 // What comes of a read, of the resolver and of the next read.
 type Words = (&'static str, &'static str, &'static str);
 
-// What a read of the key `a` answers, in a word.
-fn look<J: JournalId, F: Families + Drop, R: Wait>(
-    session: &mut Session<J>,
-    alloc: Global,
-    wire: &mut Wire<'_, J, F, R>,
-) -> &'static str {
-    wire.show();
-    match get(alloc, session, b"a", wire) {
-        Ok(Answer::KeyIsLocked(info)) => {
-            drop(info);
-            "locked"
-        }
-        Ok(Answer::Nothing) => "nothing",
+// What an answer is, in a word.
+fn word_of(answer: &Answer) -> &'static str {
+    match answer {
+        Answer::KeyIsLocked(_) => "locked",
+        Answer::Nothing => "nothing",
         _ => "otherwise",
     }
 }
 
-// Resolves the lock that it met, this long after its start: what was found, in a word.
-fn clear<J: JournalId, F: Families + Drop, R: Wait>(
-    session: &mut Session<J>,
-    seat: &mut Seat<J>,
-    wire: &mut Wire<'_, J, F, R>,
-    later: u64,
+// What a read of the key `a` answers, in a word.
+fn look<J: JournalId, F: Families + Drop, R: Wait>(
+    client: &mut Client<'_, J, F, R>,
 ) -> &'static str {
-    let now = session.start().get().saturating_add(later);
-    wire.show();
-    others::resolve(seat, session, now, wire).0
+    match client.get(b"a") {
+        Some(answer) => {
+            let word = word_of(&answer);
+            drop(answer);
+            word
+        }
+        None => "no answer",
+    }
 }
 
 // A session reads, has the lock that it meets resolved, and reads again.
 fn looks_twice<J: JournalId, F: Families + Drop, R: Wait>(
-    session: &mut Session<J>,
-    alloc: Global,
-    seats: &mut Vec<Seat<J>>,
-    wire: &mut Wire<'_, J, F, R>,
+    client: &mut Client<'_, J, F, R>,
+    resolver: &mut Seat<J>,
+    later: u64,
+) -> Words {
+    let first = look(client);
+    let found = client.resolve(resolver, later).0;
+    (first, found, look(client))
+}
+
+// A session with the first seat meets the lock, which is resolved with the other.
+fn meets<J: JournalId, F: Families + Drop, R: Wait>(
+    site: &Site<'_, J, F, R>,
+    (seat, mut resolver): (Seat<J>, Seat<J>),
     later: u64,
 ) -> Option<Words> {
-    let mut resolver = seats.pop()?;
-    let first = look(session, alloc, wire);
-    let found = clear(session, &mut resolver, wire, later);
-    let then = look(session, alloc, wire);
+    let mut client = Client::begin(site, seat)?;
+    let words = looks_twice(&mut client, &mut resolver, later);
+    drop(client);
     drop(resolver);
-    Some((first, found, then))
+    Some(words)
 }
 
 // A session meets the lock of one that is gone.
 fn reads<J: JournalId, F: Families + Drop, R: Wait>(
-    rt: &R,
-    store: &Store<J, F>,
-    alloc: Global,
+    site: &Site<'_, J, F, R>,
     seats: &mut Vec<Seat<J>>,
     later: u64,
 ) -> Option<Words> {
-    leave_lock(rt, store, alloc, seats.pop()?, 50)?;
-    let mut session = Session::begin(alloc, seats.pop()?).ok()?;
-    let mut wire = Wire::new(rt, store);
-    let words = looks_twice(&mut session, alloc, seats, &mut wire, later);
-    drop(session);
-    words
+    leave_lock(site, seats.pop()?, 50)?;
+    meets(site, pair(seats)?, later)
 }
 
 fn resolves<J: JournalId, F: Fresh, R: Wait>(
@@ -90,7 +83,12 @@ fn resolves<J: JournalId, F: Fresh, R: Wait>(
     requires two { length J.bounds ≡ 1 }
 {
     let (store, mut seats) = open::<J, F>(alloc, opened)?;
-    let words = reads(rt, &store, alloc, &mut seats, later);
+    let site = Site {
+        rt,
+        store: &store,
+        alloc,
+    };
+    let words = reads(&site, &mut seats, later);
     drop(seats);
     drop(store);
     words

@@ -1,8 +1,7 @@
 //! Two threads add to one key, each by transactions of its own: no addition is lost.
 ghost use Rattle.std.specs.Prelude.{◌≡◌, length};
 
-use crate::calls::get;
-use crate::store_tests::sessions::{commit, declare, enter, prewrite};
+use crate::store_tests::sessions::{Client, Site};
 use crate::stores::{open, pair, two_regions};
 use std::alloc::Global;
 use std::marker::Brand;
@@ -10,13 +9,10 @@ use std::sync::Wait;
 use std::test::Fail;
 use std::thread::{Threads, join};
 use tx_cells::{Families, Fresh};
-use tx_client::Session;
 use tx_core::Answer;
 use tx_flat::FlatCells;
 use tx_journal::{JournalId, Opened, Seat};
 use tx_nested::NestedCells;
-use tx_store::{Store, Wire};
-use tx_types::Mode;
 
 /// How often each thread tries to add one.
 const ROUNDS: u32 = 2_000;
@@ -38,101 +34,80 @@ fn number_of(answer: &Answer) -> Option<u32> {
 
 // What the key has at the session's start, where no lock is in the way.
 fn number<J: JournalId, F: Families + Drop, R: Wait>(
-    session: &mut Session<J>,
-    alloc: Global,
-    wire: &mut Wire<J, F, R>,
+    client: &mut Client<'_, J, F, R>,
 ) -> Option<u32> {
-    wire.show();
-    let answer = get(alloc, session, b"a", wire).ok()?;
+    let answer = client.get(b"a")?;
     let number = number_of(&answer);
     drop(answer);
     number
 }
 
 // Puts one more on the key: whether that committed.
-fn add<J: JournalId, F: Families + Drop, R: Wait>(
-    session: &mut Session<J>,
-    alloc: Global,
-    wire: &mut Wire<J, F, R>,
-) -> bool {
-    let Some(number) = number(session, alloc, wire) else {
-        return false;
-    };
-    let more = number.wrapping_add(1).to_be_bytes();
-    enter(session, alloc, b"a", &more)
-        && declare(session, Mode::TwoPhase, 10)
-        && prewrite(session, alloc, wire, 1)
-        && commit(session, wire, 1).is_some()
+fn add<J: JournalId, F: Families + Drop, R: Wait>(client: &mut Client<'_, J, F, R>) -> bool {
+    match number(client) {
+        Some(number) => client.put(b"a", &number.wrapping_add(1).to_be_bytes(), 10),
+        None => false,
+    }
 }
 
 // Tries to add in a transaction of its own.
 fn round<J: JournalId, F: Families + Drop, R: Wait>(
-    rt: &R,
-    store: &Store<J, F>,
-    alloc: Global,
+    site: &Site<'_, J, F, R>,
     seat: Seat<J>,
 ) -> Option<(bool, Seat<J>)> {
-    let mut session = Session::begin(alloc, seat).ok()?;
-    let mut wire = Wire::new(rt, store);
-    let added = add(&mut session, alloc, &mut wire);
-    Some((added, session.stop()))
+    let mut client = Client::begin(site, seat)?;
+    let added = add(&mut client);
+    Some((added, client.stop()))
 }
 
 // Tries so often: how many additions committed.
 fn rounds<J: JournalId, F: Families + Drop, R: Wait>(
-    rt: &R,
-    store: &Store<J, F>,
-    alloc: Global,
+    site: &Site<'_, J, F, R>,
     mut seat: Seat<J>,
 ) -> Option<(u32, Seat<J>)> {
     let mut count: u32 = 0;
     for _round in 0..ROUNDS {
-        let (added, free) = round(rt, store, alloc, seat)?;
+        let (added, free) = round(site, seat)?;
         seat = free;
-        if added {
-            count = count.saturating_add(1);
-        }
+        count = count.saturating_add(u32::from(added));
     }
     Some((count, seat))
 }
 
 // What the key has in the end.
 fn last<J: JournalId, F: Families + Drop, R: Wait>(
-    rt: &R,
-    store: &Store<J, F>,
-    alloc: Global,
+    site: &Site<'_, J, F, R>,
     seat: Seat<J>,
 ) -> Option<u32> {
-    let mut session = Session::begin(alloc, seat).ok()?;
-    let mut wire = Wire::new(rt, store);
-    let last = number(&mut session, alloc, &mut wire);
-    drop(session);
+    let mut client = Client::begin(site, seat)?;
+    let last = number(&mut client);
+    drop(client);
     last
+}
+
+// How many additions of both committed, and what the key has in the end.
+fn counted<J: JournalId, F: Families + Drop, R: Wait>(
+    site: &Site<'_, J, F, R>,
+    (first, seat): (u32, Seat<J>),
+    (second, other): (u32, Seat<J>),
+) -> Option<(u32, u32)> {
+    drop(other);
+    let last = last(site, seat)?;
+    Some((first.saturating_add(second), last))
 }
 
 // Two threads add at once: how many additions committed, and what the key has in the end.
 fn add_at_once<J, F, R>(
-    rt: &R,
-    store: &Store<J, F>,
-    alloc: Global,
-    one: Seat<J>,
-    two: Seat<J>,
+    site: &Site<'_, J, F, R>,
+    (one, two): (Seat<J>, Seat<J>),
 ) -> Option<(u32, u32)>
 where
     J: JournalId + Send + Sync,
     F: Families + Drop + Send,
     R: Threads + Wait + Sync,
 {
-    let (a, b) = join(
-        rt,
-        || rounds(rt, store, alloc, one),
-        || rounds(rt, store, alloc, two),
-    );
-    let (first, seat) = a?;
-    let (second, other) = b?;
-    drop(other);
-    let last = last(rt, store, alloc, seat)?;
-    Some((first.saturating_add(second), last))
+    let (a, b) = join(site.rt, || rounds(site, one), || rounds(site, two));
+    counted(site, a?, b?)
 }
 
 fn adds<J: JournalId + Send + Sync, F: Fresh + Send, R: Threads + Wait + Sync>(
@@ -144,10 +119,16 @@ fn adds<J: JournalId + Send + Sync, F: Fresh + Send, R: Threads + Wait + Sync>(
     requires two { length J.bounds ≡ 1 }
 {
     let (store, mut seats) = open::<J, F>(alloc, opened)?;
+    let site = Site {
+        rt,
+        store: &store,
+        alloc,
+    };
     let counts = match pair(&mut seats) {
-        Some((one, two)) => add_at_once(rt, &store, alloc, one, two),
+        Some(both) => add_at_once(&site, both),
         None => None,
     };
+    drop(seats);
     drop(store);
     counts
 }

@@ -5,7 +5,7 @@ ghost use Rattle.std.specs.Prelude.{◌≡◌, length};
 mod chased;
 
 use crate::store_tests::chase::chased::Chase;
-use crate::store_tests::sessions::{declare, enter};
+use crate::store_tests::sessions::{Client, Site};
 use crate::stores::{pair, two_regions};
 use std::alloc::Global;
 use std::marker::Brand;
@@ -13,39 +13,29 @@ use std::sync::{Arc, Wait};
 use std::test::Fail;
 use std::thread::{Threads, join};
 use tx_cells::{Families, Fresh};
-use tx_client::Session;
 use tx_core::Answer;
 use tx_flat::FlatCells;
 use tx_harness::{Watched, open};
 use tx_journal::{JournalId, Opened, Seat};
 use tx_nested::NestedCells;
-use tx_store::{Store, Wire};
-use tx_types::{Key, Mode};
+use tx_types::Mode;
 
 /// How often a look at a key looks for reads.
 const TURNS: u64 = 10_000_000;
 
 // Begins, and reads a key of the other region.
 fn read<J: JournalId, F: Families + Drop, R: Wait>(
-    rt: &R,
-    store: &Store<J, F>,
-    alloc: Global,
+    site: &Site<'_, J, F, R>,
     seat: Seat<J>,
 ) -> Option<Seat<J>> {
-    let key = Key::new(alloc, b"z").ok()?;
-    let mut session = Session::begin(alloc, seat).ok()?;
-    let mut wire = Wire::new(rt, store);
-    let came = session.get(&key, &mut wire);
-    drop(came);
-    drop(key);
-    Some(session.stop())
+    let mut client = Client::begin(site, seat)?;
+    drop(client.get(b"z"));
+    Some(client.stop())
 }
 
 // Reads until the other thread is done.
 fn read_on<J: JournalId, F: Families + Drop, R: Wait>(
-    rt: &R,
-    store: &Store<J, F>,
-    alloc: Global,
+    site: &Site<'_, J, F, R>,
     mut seat: Seat<J>,
     chase: &Chase,
 ) -> Option<()> {
@@ -53,7 +43,7 @@ fn read_on<J: JournalId, F: Families + Drop, R: Wait>(
         if chase.is_done() {
             break;
         }
-        seat = read(rt, store, alloc, seat)?;
+        seat = read(site, seat)?;
         chase.note_read();
     }
     drop(seat);
@@ -68,44 +58,43 @@ fn promised(answer: &Answer) -> Option<u64> {
     }
 }
 
-// Prewrites a key asynchronously: the minimum that its lock promises.
-fn prewrite<J: JournalId, F: Families + Drop, R: Wait>(
-    rt: &R,
-    store: &Store<J, F>,
-    alloc: Global,
-    seat: Seat<J>,
+// The minimum that the lock of a key promises, which is prewritten asynchronously.
+fn promise<J: JournalId, F: Families + Drop, R: Wait>(
+    client: &mut Client<'_, J, F, R>,
 ) -> Option<u64> {
-    let mut session = Session::begin(alloc, seat).ok()?;
-    let mut wire = Wire::new(rt, store);
-    let ready = enter(&mut session, alloc, b"a", b"x") && declare(&mut session, Mode::Async, 10);
-    if !ready || !session.is_declared() {
+    if !client.enter(b"a", b"x") || !client.declare(Mode::Async, 10) {
         return None;
     }
-    let answer = session.prewrite_next(alloc, &mut wire).ok();
-    drop(session);
-    let answer = answer??;
+    let answer = client.prewrite_next()?;
     let minimum = promised(&answer);
     drop(answer);
     minimum
 }
 
+// Prewrites a key asynchronously: the minimum that its lock promises.
+fn prewrite<J: JournalId, F: Families + Drop, R: Wait>(
+    site: &Site<'_, J, F, R>,
+    seat: Seat<J>,
+) -> Option<u64> {
+    let mut client = Client::begin(site, seat)?;
+    let minimum = promise(&mut client);
+    drop(client);
+    minimum
+}
+
 // One prewrites, and then the other is done.
 fn prewrite_and_end<J: JournalId, F: Families + Drop, R: Wait>(
-    rt: &R,
-    store: &Store<J, F>,
-    alloc: Global,
+    site: &Site<'_, J, F, R>,
     seat: Seat<J>,
     chase: &Chase,
 ) -> Option<u64> {
-    let minimum = prewrite(rt, store, alloc, seat);
+    let minimum = prewrite(site, seat);
     chase.end();
     minimum
 }
 
 fn chase_at_once<J, F, R>(
-    rt: &R,
-    store: &Store<J, F>,
-    alloc: Global,
+    site: &Site<'_, J, F, R>,
     (one, two): (Seat<J>, Seat<J>),
     chase: &Chase,
 ) -> Option<u64>
@@ -115,9 +104,9 @@ where
     R: Threads + Wait + Sync,
 {
     let (minimum, read) = join(
-        rt,
-        || prewrite_and_end(rt, store, alloc, one, chase),
-        || read_on(rt, store, alloc, two, chase),
+        site.rt,
+        || prewrite_and_end(site, one, chase),
+        || read_on(site, two, chase),
     );
     read?;
     minimum
@@ -133,10 +122,16 @@ fn chases<J: JournalId + Send + Sync, F: Fresh + Send, R: Threads + Wait + Sync>
     requires two { length J.bounds ≡ 1 }
 {
     let (store, mut seats) = open::<J, Watched<F, Chase>, Arc<Chase>>(alloc, opened, chase, 2)?;
+    let site = Site {
+        rt,
+        store: &store,
+        alloc,
+    };
     let minimum = match pair(&mut seats) {
-        Some(both) => chase_at_once(rt, &store, alloc, both, chase),
+        Some(both) => chase_at_once(&site, both, chase),
         None => None,
     };
+    drop(seats);
     drop(store);
     minimum
 }

@@ -3,7 +3,7 @@
 //! it loads.
 ghost use Rattle.std.specs.Prelude.{◌≡◌, ◌<◌, length};
 
-use crate::store_tests::sessions::{commit, declare, enter, prewrite};
+use crate::store_tests::sessions::{Client, Site};
 use crate::stores::{open, pair, two_regions};
 use std::alloc::Global;
 use std::marker::Brand;
@@ -11,14 +11,13 @@ use std::sync::Wait;
 use std::test::Fail;
 use std::thread::{Threads, join};
 use tx_cells::{Families, Fresh};
-use tx_client::Session;
 use tx_core::Answer;
 use tx_flat::FlatCells;
 use tx_journal::{JournalId, Opened, Seat};
 use tx_nested::NestedCells;
-use tx_resolve::gc;
-use tx_store::{Store, Wire};
-use tx_types::{Fault, Key, Mode, Ts};
+use tx_resolve::{Counts, gc};
+use tx_store::Wire;
+use tx_types::{Fault, Ts};
 
 /// How often each thread goes round.
 const ROUNDS: u32 = 200;
@@ -29,19 +28,13 @@ const TTL: u32 = 1_000_000;
 // Puts a value on a key in a transaction of its own: whether it committed, and the seat. None where
 // the seat is spent.
 fn put<J: JournalId, F: Families + Drop, R: Wait>(
-    rt: &R,
-    store: &Store<J, F>,
-    alloc: Global,
+    site: &Site<'_, J, F, R>,
     seat: Seat<J>,
     (key, value): (&[u8], &[u8]),
 ) -> Option<(bool, Seat<J>)> {
-    let mut session = Session::begin(alloc, seat).ok()?;
-    let mut wire = Wire::new(rt, store);
-    let committed = enter(&mut session, alloc, key, value)
-        && declare(&mut session, Mode::TwoPhase, TTL)
-        && prewrite(&mut session, alloc, &mut wire, 1)
-        && commit(&mut session, &mut wire, 1).is_some();
-    Some((committed, session.stop()))
+    let mut client = Client::begin(site, seat)?;
+    let committed = client.put(key, value, TTL);
+    Some((committed, client.stop()))
 }
 
 // Whether a read at a timestamp may be answered so beside collections: by the seeded value, or
@@ -54,125 +47,111 @@ fn is_due(answer: &Answer, at: Ts) -> bool {
     }
 }
 
-// Reads a key at a fresh timestamp.
-fn reads<J: JournalId, F: Families + Drop, R: Wait>(
-    rt: &R,
-    store: &Store<J, F>,
-    alloc: Global,
-    seat: Seat<J>,
-    key: &Key,
-) -> Option<(bool, Seat<J>)> {
-    let mut session = Session::begin(alloc, seat).ok()?;
-    let mut wire = Wire::new(rt, store);
-    let is_read = match session.get(key, &mut wire) {
-        Ok(answer) => {
-            let is_due = is_due(&answer, session.start());
+// Whether a read of the seeded key is answered as it may be.
+fn reads<J: JournalId, F: Families + Drop, R: Wait>(client: &mut Client<'_, J, F, R>) -> bool {
+    match client.get(b"a") {
+        Some(answer) => {
+            let is_due = is_due(&answer, client.start());
             drop(answer);
             is_due
         }
-        Err(_) => false,
-    };
-    Some((is_read, session.stop()))
+        None => false,
+    }
 }
 
-// Reads the seeded key in each round.
+// Reads at a fresh timestamp.
+fn read<J: JournalId, F: Families + Drop, R: Wait>(
+    site: &Site<'_, J, F, R>,
+    seat: Seat<J>,
+) -> Option<(bool, Seat<J>)> {
+    let mut client = Client::begin(site, seat)?;
+    let is_read = reads(&mut client);
+    Some((is_read, client.stop()))
+}
+
+// Reads in each round: whether each was answered as it may be.
 fn read_on<J: JournalId, F: Families + Drop, R: Wait>(
-    rt: &R,
-    store: &Store<J, F>,
-    alloc: Global,
+    site: &Site<'_, J, F, R>,
     mut seat: Seat<J>,
-) -> bool {
-    let Ok(key) = Key::new(alloc, b"a") else {
-        return false;
-    };
+) -> Option<bool> {
+    let mut all_read = true;
     for _ in 0..ROUNDS {
-        match reads(rt, store, alloc, seat, &key) {
-            Some((true, back)) => seat = back,
-            _ => return false,
-        }
+        let (is_read, back) = read(site, seat)?;
+        seat = back;
+        all_read = all_read && is_read;
     }
-    true
+    drop(seat);
+    Some(all_read)
 }
 
 // Puts another key in each round: how often it committed. A collection beside it may end what has
 // not committed yet.
 fn put_on<J: JournalId, F: Families + Drop, R: Wait>(
-    rt: &R,
-    store: &Store<J, F>,
-    alloc: Global,
+    site: &Site<'_, J, F, R>,
     mut seat: Seat<J>,
 ) -> Option<u32> {
     let mut committed = 0_u32;
     for round in 0..ROUNDS {
-        let (is_committed, back) = put(rt, store, alloc, seat, (b"b", &round.to_be_bytes()))?;
+        let (is_committed, back) = put(site, seat, (b"b", &round.to_be_bytes()))?;
         seat = back;
-        if is_committed {
-            committed = committed.wrapping_add(1);
-        }
+        committed = committed.wrapping_add(u32::from(is_committed));
     }
+    drop(seat);
     Some(committed)
 }
 
 // Whether a collection ended as it may: with its counts, or at a lock that came between.
-fn collects<J: JournalId, F: Families + Drop, R: Wait>(
-    rt: &R,
-    store: &Store<J, F>,
-    seat: &mut Seat<J>,
-) -> bool
-    requires few { length J.bounds < 1024 }
-{
-    let mut wire = Wire::new(rt, store);
-    let safe = seat.last();
-    match gc(seat, safe, &mut wire) {
+fn may_end(collected: &Result<Counts, Fault>, safe: Ts) -> bool {
+    match collected {
         Ok(_) => true,
         Err(Fault::LocksRemain(info)) => info.facts().start < safe,
         Err(_) => false,
     }
 }
 
+// Collects: whether that ended as it may.
+fn collects<J: JournalId, F: Families + Drop, R: Wait>(
+    site: &Site<'_, J, F, R>,
+    seat: &mut Seat<J>,
+) -> bool
+    requires few { length J.bounds < 1024 }
+{
+    let mut wire = Wire::new(site.rt, site.store);
+    let safe = seat.last();
+    let collected = gc(seat, safe, &mut wire);
+    let may_end = may_end(&collected, safe);
+    drop(collected);
+    may_end
+}
+
 // Collects in each round.
 fn collect_on<J: JournalId, F: Families + Drop, R: Wait>(
-    rt: &R,
-    store: &Store<J, F>,
+    site: &Site<'_, J, F, R>,
     mut seat: Seat<J>,
 ) -> bool
     requires few { length J.bounds < 1024 }
 {
+    let mut all_end = true;
     for _ in 0..ROUNDS {
-        if !collects(rt, store, &mut seat) {
-            return false;
-        }
+        all_end = all_end && collects(site, &mut seat);
     }
-    true
+    drop(seat);
+    all_end
 }
 
 // Two threads read on.
-fn read_both<J, F, R>(
-    rt: &R,
-    store: &Store<J, F>,
-    alloc: Global,
-    (one, two): (Seat<J>, Seat<J>),
-) -> bool
+fn read_both<J, F, R>(site: &Site<'_, J, F, R>, (one, two): (Seat<J>, Seat<J>)) -> bool
 where
     J: JournalId + Send + Sync,
     F: Families + Drop + Send,
     R: Threads + Wait + Sync,
 {
-    let (first, second) = join(
-        rt,
-        || read_on(rt, store, alloc, one),
-        || read_on(rt, store, alloc, two),
-    );
-    first && second
+    let (first, second) = join(site.rt, || read_on(site, one), || read_on(site, two));
+    first == Some(true) && second == Some(true)
 }
 
 // One thread puts on, and one collects on.
-fn put_and_collect<J, F, R>(
-    rt: &R,
-    store: &Store<J, F>,
-    alloc: Global,
-    seats: (Seat<J>, Seat<J>),
-) -> bool
+fn put_and_collect<J, F, R>(site: &Site<'_, J, F, R>, seats: (Seat<J>, Seat<J>)) -> bool
 where
     J: JournalId + Send + Sync,
     F: Families + Drop + Send,
@@ -180,19 +159,13 @@ where
     requires few { length J.bounds < 1024 }
 {
     let (one, two) = seats;
-    let (committed, collected) = join(
-        rt,
-        || put_on(rt, store, alloc, one),
-        || collect_on(rt, store, two),
-    );
+    let (committed, collected) = join(site.rt, || put_on(site, one), || collect_on(site, two));
     collected && committed.is_some()
 }
 
 // Whether the four threads find what they may, with these seats.
 fn side_by_side<J, F, R>(
-    rt: &R,
-    store: &Store<J, F>,
-    alloc: Global,
+    site: &Site<'_, J, F, R>,
     readers: (Seat<J>, Seat<J>),
     others: (Seat<J>, Seat<J>),
 ) -> bool
@@ -203,31 +176,42 @@ where
     requires few { length J.bounds < 1024 }
 {
     let (read, collected) = join(
-        rt,
-        || read_both(rt, store, alloc, readers),
-        || put_and_collect(rt, store, alloc, others),
+        site.rt,
+        || read_both(site, readers),
+        || put_and_collect(site, others),
     );
     read && collected
 }
 
+// Seeds the key.
+fn seed<J: JournalId, F: Families + Drop, R: Wait>(
+    site: &Site<'_, J, F, R>,
+    seat: Seat<J>,
+) -> Option<bool> {
+    let (is_seeded, seat) = put(site, seat, (b"a", b"seed"))?;
+    drop(seat);
+    Some(is_seeded)
+}
+
 // Seeds a key, and has four threads of their own seats at the store.
-fn run_over<J, F, R>(
-    rt: &R,
-    store: &Store<J, F>,
-    alloc: Global,
-    seats: &mut Vec<Seat<J>>,
-) -> Option<bool>
+fn run_over<J, F, R>(site: &Site<'_, J, F, R>, seats: &mut Vec<Seat<J>>) -> Option<bool>
 where
     J: JournalId + Send + Sync,
     F: Families + Drop + Send,
     R: Threads + Wait + Sync,
     requires few { length J.bounds < 1024 }
 {
-    let (is_seeded, seat) = put(rt, store, alloc, seats.pop()?, (b"a", b"seed"))?;
-    drop(seat);
+    if !seed(site, seats.pop()?)? {
+        return Some(false);
+    }
     let readers = pair(seats)?;
-    let others = pair(seats)?;
-    Some(is_seeded && side_by_side(rt, store, alloc, readers, others))
+    match pair(seats) {
+        Some(others) => Some(side_by_side(site, readers, others)),
+        None => {
+            drop(readers);
+            None
+        }
+    }
 }
 
 // Opens a store of two regions over such families, with seats for five.
@@ -240,7 +224,12 @@ where
     requires two { length J.bounds ≡ 1 }
 {
     let (store, mut seats) = open::<J, F>(alloc, opened)?;
-    let found = run_over(rt, &store, alloc, &mut seats);
+    let site = Site {
+        rt,
+        store: &store,
+        alloc,
+    };
+    let found = run_over(&site, &mut seats);
     drop(seats);
     drop(store);
     found

@@ -1,7 +1,7 @@
 //! Two threads are inside the look-ups of two regions at once, and never inside those of one.
 ghost use Rattle.std.specs.Prelude.{◌≡◌, length};
 
-use crate::store_tests::sessions::{declare, enter, prewrite};
+use crate::store_tests::sessions::{Site, locks};
 use crate::stores::{pair, two_regions};
 use std::alloc::Global;
 use std::marker::Brand;
@@ -9,40 +9,16 @@ use std::sync::{Arc, Wait};
 use std::test::Fail;
 use std::thread::{Threads, join};
 use tx_cells::Families;
-use tx_client::Session;
 use tx_harness::{Rendezvous, Watched, open};
 use tx_journal::{JournalId, Opened, Seat};
 use tx_nested::NestedCells;
-use tx_store::{Store, Wire};
-use tx_types::Mode;
 
 // Families of which two looks meet.
 type Cells = Watched<NestedCells, Rendezvous>;
 
-// Begins, and locks a key: whether that was accepted.
-fn lock<J: JournalId, F: Families + Drop, R: Wait>(
-    rt: &R,
-    store: &Store<J, F>,
-    alloc: Global,
-    seat: Seat<J>,
-    key: &[u8],
-) -> bool {
-    let Ok(mut session) = Session::begin(alloc, seat) else {
-        return false;
-    };
-    let mut wire = Wire::new(rt, store);
-    let accepted = enter(&mut session, alloc, key, b"1")
-        && declare(&mut session, Mode::TwoPhase, 10)
-        && prewrite(&mut session, alloc, &mut wire, 1);
-    drop(session);
-    accepted
-}
-
 // Two threads lock these keys: whether both were accepted.
 fn lock_at_once<J, F, R>(
-    rt: &R,
-    store: &Store<J, F>,
-    alloc: Global,
+    site: &Site<'_, J, F, R>,
     (one, two): (Seat<J>, Seat<J>),
     (first, second): (&[u8], &[u8]),
 ) -> bool
@@ -52,9 +28,9 @@ where
     R: Threads + Wait + Sync,
 {
     let (a, b) = join(
-        rt,
-        || lock(rt, store, alloc, one, first),
-        || lock(rt, store, alloc, two, second),
+        site.rt,
+        || locks(site, one, (first, b"1"), 10),
+        || locks(site, two, (second, b"1"), 10),
     );
     a && b
 }
@@ -75,10 +51,16 @@ fn locks_at_once<J: JournalId + Send + Sync, R: Threads + Wait + Sync>(
     else {
         return false;
     };
+    let site = Site {
+        rt,
+        store: &store,
+        alloc,
+    };
     let answered = match pair(&mut seats) {
-        Some(both) => lock_at_once(rt, &store, alloc, both, keys),
+        Some(both) => lock_at_once(&site, both, keys),
         None => false,
     };
+    drop(seats);
     drop(store);
     answered
 }

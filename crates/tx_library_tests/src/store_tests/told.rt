@@ -1,8 +1,7 @@
 //! What one thread has committed, another reads that begins after it was told.
 ghost use Rattle.std.specs.Prelude.{◌≡◌, length};
 
-use crate::calls::get;
-use crate::store_tests::sessions::{commit, declare, enter, prewrite};
+use crate::store_tests::sessions::{Client, Site};
 use crate::stores::{open, pair, two_regions};
 use std::alloc::Global;
 use std::marker::Brand;
@@ -10,34 +9,36 @@ use std::sync::Wait;
 use std::test::Fail;
 use std::thread::{Threads, join};
 use tx_cells::{Families, Fresh};
-use tx_client::Session;
 use tx_core::Answer;
 use tx_journal::{JournalId, Opened, Seat, Told};
 use tx_nested::NestedCells;
-use tx_store::{Store, Wire};
 use tx_types::{Mode, Ts};
 
-// Puts `x` on `a` and `y` on `z`, which lie in different regions: when it committed, and
-// what tells of it.
+// Puts `x` on `a` and `y` on `z`, which lie in different regions: when it committed, and what tells
+// of it.
 fn put_both<J: JournalId, F: Families + Drop, R: Wait>(
-    rt: &R,
-    store: &Store<J, F>,
-    alloc: Global,
-    seat: Seat<J>,
+    client: &mut Client<'_, J, F, R>,
 ) -> Option<(Ts, Told<J>)> {
-    let mut session = Session::begin(alloc, seat).ok()?;
-    let mut wire = Wire::new(rt, store);
-    let ready = enter(&mut session, alloc, b"a", b"x")
-        && enter(&mut session, alloc, b"z", b"y")
-        && declare(&mut session, Mode::TwoPhase, 10)
-        && prewrite(&mut session, alloc, &mut wire, 2);
+    let ready = client.enter(b"a", b"x")
+        && client.enter(b"z", b"y")
+        && client.declare(Mode::TwoPhase, 10)
+        && client.prewrite(2);
     if !ready {
         return None;
     }
-    let commit = commit(&mut session, &mut wire, 2)?;
-    let told = session.tell();
-    drop(session);
-    Some((commit, told))
+    let commit = client.commit(2)?;
+    Some((commit, client.tell()))
+}
+
+// Does so in a transaction of its own.
+fn puts<J: JournalId, F: Families + Drop, R: Wait>(
+    site: &Site<'_, J, F, R>,
+    seat: Seat<J>,
+) -> Option<(Ts, Told<J>)> {
+    let mut client = Client::begin(site, seat)?;
+    let put = put_both(&mut client);
+    drop(client);
+    put
 }
 
 // Whether this is the value of that one byte.
@@ -50,71 +51,57 @@ fn is_byte(answer: &Answer, byte: u8) -> bool {
 
 // Whether a key has this value at the session's start.
 fn reads<J: JournalId, F: Families + Drop, R: Wait>(
-    session: &mut Session<J>,
-    alloc: Global,
-    wire: &mut Wire<J, F, R>,
+    client: &mut Client<'_, J, F, R>,
     key: &[u8],
     byte: u8,
 ) -> bool {
-    wire.show();
-    match get(alloc, session, key, wire) {
-        Ok(answer) => {
+    match client.get(key) {
+        Some(answer) => {
             let is = is_byte(&answer, byte);
             drop(answer);
             is
         }
-        Err(_) => false,
+        None => false,
     }
 }
 
 // Begins above the commit, and reads both values.
 fn read_both<J: JournalId, F: Families + Drop, R: Wait>(
-    rt: &R,
-    store: &Store<J, F>,
-    alloc: Global,
+    site: &Site<'_, J, F, R>,
     seat: Seat<J>,
     commit: Ts,
 ) -> bool {
-    let Ok(mut session) = Session::begin(alloc, seat) else {
+    let Some(mut client) = Client::begin(site, seat) else {
         return false;
     };
-    let mut wire = Wire::new(rt, store);
-    let seen = session.start() > commit
-        && reads(&mut session, alloc, &mut wire, b"a", b'x')
-        && reads(&mut session, alloc, &mut wire, b"z", b'y');
-    drop(session);
+    let seen = client.start() > commit
+        && reads(&mut client, b"a", b'x')
+        && reads(&mut client, b"z", b'y');
+    drop(client);
     seen
 }
 
 // Learns what was told, and reads.
 fn read_after<J: JournalId, F: Families + Drop, R: Wait>(
-    rt: &R,
-    store: &Store<J, F>,
-    alloc: Global,
+    site: &Site<'_, J, F, R>,
     mut seat: Seat<J>,
     (commit, told): (Ts, Told<J>),
 ) -> bool {
     seat.learn(told);
-    read_both(rt, store, alloc, seat, commit)
+    read_both(site, seat, commit)
 }
 
 // One thread commits, and hands what it has seen to another.
-fn tell_across<J, F, R>(
-    rt: &R,
-    store: &Store<J, F>,
-    alloc: Global,
-    one: Seat<J>,
-    two: Seat<J>,
-) -> bool
+fn tell_across<J, F, R>(site: &Site<'_, J, F, R>, (one, two): (Seat<J>, Seat<J>)) -> bool
 where
     J: JournalId + Send + Sync,
     F: Families + Drop + Send,
     R: Threads + Wait + Sync,
 {
-    let (put, ()) = join(rt, || put_both(rt, store, alloc, one), || ());
+    let (put, ()) = join(site.rt, || puts(site, one), || ());
     match put {
         Some(told) => {
-            let ((), seen) = join(rt, || (), || read_after(rt, store, alloc, two, told));
+            let ((), seen) = join(site.rt, || (), || read_after(site, two, told));
             seen
         }
         None => false,
@@ -132,10 +119,16 @@ fn tells_across<J: JournalId + Send + Sync, F: Fresh + Send, R: Threads + Wait +
     let Some((store, mut seats)) = open::<J, F>(alloc, opened) else {
         return false;
     };
+    let site = Site {
+        rt,
+        store: &store,
+        alloc,
+    };
     let told = match pair(&mut seats) {
-        Some((one, two)) => tell_across(rt, &store, alloc, one, two),
+        Some(both) => tell_across(&site, both),
         None => false,
     };
+    drop(seats);
     drop(store);
     told
 }

@@ -5,6 +5,7 @@ use std::alloc::Global;
 use tx_cells::{Families, Fresh};
 use tx_flat::FlatCells;
 use tx_nested::NestedCells;
+use tx_plan::Body;
 use tx_region::{Executed, Records};
 use tx_types::Ts;
 
@@ -23,19 +24,25 @@ struct Tried<F> {
 }
 
 // What the region answers where it has loaded 20.
-fn ask<F: Families>(tried: &mut Tried<F>, alloc: Global, asked: Ask) -> Short {
+fn execute<F: Families>(tried: &mut Tried<F>, body: &Body) -> Short {
     if tried.read.get() == u64::MAX {
         return (Word::Refused, 0, 0);
     }
-    let Ok(body) = body(alloc, asked) else {
-        return (Word::Refused, 0, 0);
-    };
-    match tried.records.answer(Ts::new(20), tried.read, &body) {
+    match tried.records.answer(Ts::new(20), tried.read, body) {
         Ok(Executed { answer, read }) => {
-            if let Some(read) = read {
-                tried.read = tried.read.max(read);
-            }
+            tried.read = tried.read.max(read.unwrap_or(Ts::ZERO));
             answered(Ok(answer.into_answer()))
+        }
+        Err(fault) => answered(Err(fault)),
+    }
+}
+
+fn ask<F: Families>(tried: &mut Tried<F>, alloc: Global, asked: Ask) -> Short {
+    match body(alloc, asked) {
+        Ok(body) => {
+            let short = execute(tried, &body);
+            drop(body);
+            short
         }
         Err(fault) => answered(Err(fault)),
     }
