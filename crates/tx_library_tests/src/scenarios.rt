@@ -24,12 +24,17 @@ fn first_wrong<R: Wait>(rt: &R, alloc: Global, scenarios: &[Scenario]) -> Option
     None
 }
 
+// And of all.
+fn first_wrong_of_all<R: Wait>(rt: &R, alloc: Global) -> Option<&'static str> {
+    first_wrong(rt, alloc, learnt::SCENARIOS)
+        .or(first_wrong(rt, alloc, refused::SCENARIOS))
+        .or(first_wrong(rt, alloc, resolver::SCENARIOS))
+        .or(first_wrong(rt, alloc, short_seats::SCENARIOS))
+        .or(first_wrong(rt, alloc, unsent::SCENARIOS))
+}
+
 #[test]
 fn steps_come_out_as_they_say(rt: HostRuntime) -> Result<(), Fail> {
-    assert_eq!(rt; first_wrong(&rt, rt.alloc(), learnt::SCENARIOS), None);
-    assert_eq!(rt; first_wrong(&rt, rt.alloc(), refused::SCENARIOS), None);
-    assert_eq!(rt; first_wrong(&rt, rt.alloc(), resolver::SCENARIOS), None);
-    assert_eq!(rt; first_wrong(&rt, rt.alloc(), short_seats::SCENARIOS), None);
-    assert_eq!(rt; first_wrong(&rt, rt.alloc(), unsent::SCENARIOS), None);
+    assert_eq!(rt; first_wrong_of_all(&rt, rt.alloc()), None);
     Ok(())
 }

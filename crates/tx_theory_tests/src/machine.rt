@@ -350,15 +350,22 @@ fn is_below(machine: &mut Machine, step: &Step, read: u64, below: u64) -> bool {
     }
 }
 
+// Whether after these steps the first insert may not commit at 2, below the read of the second at
+// 3, and may abort.
+fn was_a_read(machine: &mut Machine, steps: &[Step]) -> bool {
+    let below = Step::Commit(Ts::new(1), Ts::new(2));
+    let was_a_read = goes(machine, steps) && is_below(machine, &below, 3, 2);
+    drop(below);
+    was_a_read && machine.step(&Step::Abort(Ts::new(1))).is_ok()
+}
+
 #[test]
 fn a_committed_insert_was_a_read(rt: HostRuntime) -> Result<(), Fail> {
     let steps = steps_of(&rt, TWO_INSERTS)?;
     let mut machine = Machine::new(rt.alloc());
-    let has_gone = goes(&mut machine, steps.as_slice());
-    drop(steps);
-    let is_below = is_below(&mut machine, &Step::Commit(Ts::new(1), Ts::new(2)), 3, 2);
-    let aborts = machine.step(&Step::Abort(Ts::new(1))).is_ok();
+    let was_a_read = was_a_read(&mut machine, steps.as_slice());
     drop(machine);
-    assert!(rt; has_gone && is_below && aborts);
+    drop(steps);
+    assert!(rt; was_a_read);
     Ok(())
 }

@@ -90,17 +90,28 @@ fn values_of_at_most_255_bytes_stand_inline(rt: HostRuntime) {
     }
 }
 
-// The async lock of the primary `a`, with another key.
-fn lock_on(rt: &HostRuntime, other: &[u8]) -> Result<LockRec, Fault> {
+fn others(rt: &HostRuntime, other: &[u8]) -> Result<Secondaries, Fault> {
     let mut secondaries = Secondaries::with_capacity(rt.alloc(), 1)?;
     secondaries.push(Key::new(rt.alloc(), other)?)?;
+    Ok(secondaries)
+}
+
+fn stored(rt: &HostRuntime) -> Result<StoredMutation, Fault> {
+    let value = Value::new(rt.alloc(), b"x")?;
+    Ok(StoredMutation::Put(value.stored()?))
+}
+
+// The async lock of the primary `a`, with another key.
+fn lock_on(rt: &HostRuntime, other: &[u8]) -> Result<LockRec, Fault> {
+    let primary = Key::new(rt.alloc(), b"a")?;
+    let mutation = stored(rt)?;
     Ok(LockRec {
-        mutation: StoredMutation::Put(Value::new(rt.alloc(), b"x")?.stored()?),
-        mode: LockMode::Async(secondaries),
+        mutation,
+        mode: LockMode::Async(others(rt, other)?),
         start: Ts::new(1),
         min: Ts::new(2),
         ttl: 10,
-        primary: Key::new(rt.alloc(), b"a")?,
+        primary,
     })
 }
 
