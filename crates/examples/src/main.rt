@@ -278,6 +278,7 @@ fn is_explained(rt: &HostRuntime, name: &str, options: PictureOptions) -> Result
         options,
         &mut reader,
         &mut written,
+        &mut None,
     );
     Ok(ended.is_ok() && written.as_slice() == shown.as_slice())
 }

@@ -5,4 +5,4 @@
 
 mod script;
 
-pub use script::{PictureForm, PictureOptions, explain};
+pub use script::{PictureForm, PictureOptions, ScriptStop, explain};

@@ -12,13 +12,13 @@ ghost use Rattle.tx_types.specs.declared.key.Key.{Key};
 ghost use Rattle.tx_types.specs.declared.limits.TheConstants as limits;
 ghost use Rattle.tx_explain.specs.Explained.{Explains};
 
-use std::alloc::Global;
+use std::alloc::{AllocError, Global};
 use std::io::{BufRead, ErrorKind, Write};
 use tx_cells::{Families, Makes};
 use tx_drawing::svg_of;
 use tx_picture::text_of;
 use tx_played::{Watched, keys_of, lines_of, places_of, put_in, turns_of};
-use tx_script::{Broken, End, simulate, simulate_numbered};
+use tx_script::{Broken, End, SessionStage, simulate, simulate_numbered};
 use tx_sheet::{Sheet, put_machine, sheet_of};
 use tx_text::{finish, put_fault, send};
 use tx_types::{Cause, Key};
@@ -38,6 +38,20 @@ pub struct PictureOptions {
     pub form: PictureForm,
     /// Whether with the machine's steps, each at the line that made it.
     pub machine: bool,
+}
+
+/// Where a script stopped that is at fault, for who tells why.
+#[derive(Debug, Drop)]
+pub struct ScriptStop {
+    /// The number of its line, from 1 up.
+    pub number: u64,
+    /// The line, without its newline.
+    pub line: Vec<u8>,
+    /// The line of its fault as it was played, with its newline: it names the cause.
+    pub reply: Vec<u8>,
+    /// How far the session of that line was, where the line is a draw, a commit or an abort that it
+    /// may not make.
+    pub stage: Option<SessionStage>,
 }
 
 // Reads all that is left.
@@ -60,6 +74,7 @@ fn play_plain<F: Families + Drop, M: Makes<F>>(
     alloc: Global,
     make: &M,
     script: &[u8],
+    stage: &mut Option<SessionStage>,
 ) -> Result<(End, Vec<u8>), Broken>
     ensures { IfOk result (λ played. (refused : List Bool) × (p : Played)
         × IsPlay (bounds_of (lines_in script.now)) refused (lines_in script.now) p
@@ -67,7 +82,7 @@ fn play_plain<F: Families + Drop, M: Makes<F>>(
 {
     let mut written = Vec::new(alloc);
     let mut reader = script;
-    let end = simulate::<F, M, _, _>(alloc, make, &mut reader, &mut written, &mut None)?;
+    let end = simulate::<F, M, _, _>(alloc, make, &mut reader, &mut written, stage)?;
     Ok((end, written))
 }
 
@@ -76,6 +91,7 @@ fn play_numbered<F: Families + Drop, M: Makes<F>>(
     alloc: Global,
     make: &M,
     script: &[u8],
+    stage: &mut Option<SessionStage>,
 ) -> Result<(End, Vec<u8>), Broken>
     ensures { IfOk result (λ played. (refused : List Bool) × (p : Played) × (numbers : List ℕ)
         × IsPlay (bounds_of (lines_in script.now)) refused (lines_in script.now) p
@@ -84,7 +100,7 @@ fn play_numbered<F: Families + Drop, M: Makes<F>>(
 {
     let mut written = Vec::new(alloc);
     let mut reader = script;
-    let end = simulate_numbered::<F, M, _, _>(alloc, make, &mut reader, &mut written, &mut None)?;
+    let end = simulate_numbered::<F, M, _, _>(alloc, make, &mut reader, &mut written, stage)?;
     Ok((end, written))
 }
 
@@ -94,14 +110,15 @@ fn play<F: Families + Drop, M: Makes<F>>(
     make: &M,
     machine: bool,
     script: &[u8],
+    stage: &mut Option<SessionStage>,
 ) -> Result<(End, Vec<u8>), Broken>
     ensures { IfOk result (λ played. (refused : List Bool) × (p : Played)
         × IsPlay (bounds_of (lines_in script.now)) refused (lines_in script.now) p × (played.0 ≡ p.ended)) }
 {
     if machine {
-        play_numbered::<F, M>(alloc, make, script)
+        play_numbered::<F, M>(alloc, make, script, stage)
     } else {
-        play_plain::<F, M>(alloc, make, script)
+        play_plain::<F, M>(alloc, make, script, stage)
     }
 }
 
@@ -148,6 +165,33 @@ fn picture(
     }
 }
 
+// Where a script stopped that is at fault, by the text of its replies: at the last of its lines
+// that was replied to.
+#[cold]
+fn stop_of(
+    alloc: Global,
+    lines: &[&[u8]],
+    counts: &[usize],
+    written: &[u8],
+    stage: Option<SessionStage>,
+) -> Result<Option<ScriptStop>, AllocError>
+    requires { length counts.now ≡ length lines.now }
+{
+    let replies = lines_of(alloc, written)?;
+    let turns = turns_of(alloc, lines, counts, replies.as_slice())?;
+    let Some(turn) = turns.last() else {
+        return Ok(None);
+    };
+    let mut reply = turn.reply.to_vec(alloc)?;
+    reply.push(b'\n')?;
+    Ok(Some(ScriptStop {
+        number: turns.len() as u64,
+        line: turn.line.to_vec(alloc)?,
+        reply,
+        stage,
+    }))
+}
+
 // Writes a text, and hands on what the writer still holds back.
 fn write_all<W: Write>(writer: &mut W, text: &[u8]) -> Result<(), Broken>
     ensures all { IfOk result (λ _. Appends (W.contents writer.old) (W.contents writer.new) text.now) }
@@ -171,7 +215,8 @@ fn refuse<W: Write>(alloc: Global, writer: &mut W, number: u64) -> Result<End, B
 
 /// Plays a script as `simulate` does, with lines put in that show each key, and writes the picture
 /// of its run. Where these are more lines than a script may have, it is not played: the one line
-/// that is written is that fault.
+/// that is written is that fault. Where a line stops the script, `stop` then says where and, as
+/// `simulate` does, how far its session was; else it says nothing.
 ///
 /// `Input` where a read failed, `Output` where a write or the flush failed, `Memory` where a growth
 /// was refused outside of a step's own calls.
@@ -181,6 +226,7 @@ pub fn explain<F: Families + Drop, M: Makes<F>, R: BufRead, W: Write>(
     options: PictureOptions,
     reader: &mut R,
     writer: &mut W,
+    stop: &mut Option<ScriptStop>,
 ) -> Result<End, Broken>
     // Not broken off, it has written a text of the play, or that the script is too long.
     ensures ends { IfOk result (λ end. IfSome (R.remaining reader.old)
@@ -195,7 +241,14 @@ pub fn explain<F: Families + Drop, M: Makes<F>, R: BufRead, W: Write>(
         Ok(watched) => watched,
         Err(number) => return refuse(alloc, writer, number),
     };
-    let (end, written) = play::<F, M>(alloc, make, options.machine, watched.text.as_slice())?;
+    let mut stage = None;
+    let (end, written) = play::<F, M>(
+        alloc,
+        make,
+        options.machine,
+        watched.text.as_slice(),
+        &mut stage,
+    )?;
     let shown = picture(
         alloc,
         options,
@@ -204,6 +257,10 @@ pub fn explain<F: Families + Drop, M: Makes<F>, R: BufRead, W: Write>(
         &watched,
         written.as_slice(),
     )?;
+    if end == End::Faulted {
+        let counts = watched.counts.as_slice();
+        *stop = stop_of(alloc, lines.as_slice(), counts, written.as_slice(), stage)?;
+    }
     write_all(writer, shown.as_bytes())?;
     Ok(end)
 }

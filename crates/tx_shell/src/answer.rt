@@ -8,21 +8,47 @@ use std::io::{BufWriter, Read, Write};
 use std::sync::Wait;
 use std::thread::Threads;
 use tx_command::{
-    Asking, CommandEnd, Counted, Erasing, NotedFaults, Noting, Recent, Shared, reason,
+    Asking, CommandEnd, Counted, Erasing, NotedFaults, Noting, Recent, Shared, fault_in, reason,
 };
+use tx_explain::ScriptStop;
+use tx_run::SessionStage;
 use tx_text::Broken;
 
-// Says on standard error why lines are faults, where a session's state is why by that state. What
-// cannot be said there is left out: the line of each fault is written all the same.
+// Says on standard error why a line is a fault, where its session's stage is why by that stage.
+// What cannot be said there is left out: the line of each fault is written all the same.
+fn tell(
+    asked: &Invocation<'_>,
+    fault: NotedFaults,
+    line: Option<&[u8]>,
+    stage: Option<SessionStage>,
+) {
+    let host = asked.host;
+    let state = stage.map(|stage| stage.as_str());
+    if let Ok(why) = reason(host.alloc(), asked.job.task, fault, line, state) {
+        let _ = eprintln!(host; "txkv: {why}");
+    }
+}
+
+// The same of where a script stopped whose picture was drawn.
+fn tell_stop(asked: &Invocation<'_>, stop: &ScriptStop) {
+    if let Some(fault) = fault_in(stop.reply.as_slice()) {
+        let fault = NotedFaults {
+            number: stop.number,
+            cause: fault.cause,
+        };
+        tell(asked, fault, Some(stop.line.as_slice()), stop.stage);
+    }
+}
+
+// Says why lines are faults.
 fn explain<I>(asked: &Invocation<'_>, faults: &[NotedFaults], stages: &Stages, lines: &Recent<I>) {
     asked.progress.erase();
-    let host = asked.host;
     'faults: for fault in faults {
         let line = lines.line(fault.number);
-        let state = stages.at(fault.number).map(|stage| stage.as_str());
-        if let Ok(why) = reason(host.alloc(), asked.job.task, *fault, line, state) {
-            let _ = eprintln!(host; "txkv: {why}");
-        }
+        tell(asked, *fault, line, stages.at(fault.number));
+    }
+    if let Some(stop) = &stages.stop {
+        tell_stop(asked, stop);
     }
 }
 

@@ -4,7 +4,7 @@ use std::io::{BufRead, Write};
 use std::sync::Wait;
 use std::thread::Threads;
 use tx_command::CellsKind;
-use tx_explain::{PictureOptions, explain};
+use tx_explain::{PictureOptions, ScriptStop, explain};
 use tx_flat::FlatCells;
 use tx_nested::NestedCells;
 use tx_run::{Plain, RunResult, Settings, run_script};
@@ -82,11 +82,14 @@ pub(crate) fn explain_over<B: BufRead, W: Write>(
     options: PictureOptions,
     reader: &mut B,
     writer: &mut W,
+    stop: &mut Option<ScriptStop>,
 ) -> Result<End, Broken> {
     match cells {
-        CellsKind::Flat => explain::<FlatCells, _, _, _>(alloc, &Plain, options, reader, writer),
+        CellsKind::Flat => explain::<FlatCells, _, _, _>(
+            alloc, &Plain, options, reader, writer, stop,
+        ),
         CellsKind::Nested => explain::<NestedCells, _, _, _>(
-            alloc, &Plain, options, reader, writer,
+            alloc, &Plain, options, reader, writer, stop,
         ),
     }
 }

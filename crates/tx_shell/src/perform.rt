@@ -146,7 +146,8 @@ where
             )
         }
         CommandTask::Explain(told) => {
-            explain_over(alloc, cells, picture_asked(told), reader, writer)
+            let options = picture_asked(told);
+            explain_over(alloc, cells, options, reader, writer, &mut stages.stop)
         }
         CommandTask::Generate(told) => generate_script(alloc, told, writer),
         CommandTask::Check | CommandTask::Import(_) => check(alloc, reader, writer),

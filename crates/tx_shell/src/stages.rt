@@ -1,5 +1,6 @@
 //! How far sessions were of a step that was not their next.
 use std::alloc::Global;
+use tx_explain::ScriptStop;
 use tx_run::SessionStage;
 
 /// How far the session was that stopped a script, and, with the numbers of their lines, how far
@@ -8,6 +9,8 @@ use tx_run::SessionStage;
 pub(crate) struct Stages {
     pub script: Option<SessionStage>,
     pub lines: Vec<(u64, SessionStage)>,
+    /// Where a script stopped whose picture was drawn.
+    pub stop: Option<ScriptStop>,
 }
 
 impl Stages {
@@ -16,6 +19,7 @@ impl Stages {
         Stages {
             script: None,
             lines: Vec::new(alloc),
+            stop: None,
         }
     }
 
