@@ -161,7 +161,7 @@ pub(crate) fn draw_at<J: JournalId, F: Families>(
 }
 
 /// The live session of a slot answers its outcome, where it has one, and leaves a free seat there.
-/// It is moved but once, and where it has no outcome not at all.
+/// The session is moved out of its slot once, and where it has no outcome not at all.
 pub(crate) fn finish_in<J: JournalId, F: Families>(
     slot: &mut SessionSlot<Seat<J>, Session<J>>,
     network: &mut Network<J, F>,

@@ -117,12 +117,9 @@ pub(crate) fn lend<J: JournalId>(
     ensures none { IfNone result ((slots.new.items ≡ slots.old.items)
         × NamesNone J.bounds names.now slots.old.items name.now) }
 {
-    let k = slot_at(names, slots, name)?;
-    match swap_slot(slots, k, SessionSlot::Lent) {
-        SessionSlot::Live(session) => Some((k, session)),
-        other => {
-            swap_slot(slots, k, other);
-            None
-        }
-    }
+    let k = live_slot(names, slots, name)?;
+    let SessionSlot::Live(session) = swap_slot(slots, k, SessionSlot::Lent) else {
+        unreachable!()
+    };
+    Some((k, session))
 }

@@ -3,7 +3,6 @@
 ghost use Rattle.std.specs.Prelude.{◌≡◌, ◌≤◌, ◌⊎◌, ◌+◌, ℕ, [], List, length, Contains, Some, None, IfNone, IfSome, IfOk, IfErr, OnOk, ◌&&◌, not, cond, nat_le, is_some, option_map, string_bytes, bytes_eq};
 ghost use Rattle.std.specs.Map.{update};
 ghost use Rattle.std.specs.BTreeMap.{get_by_text};
-ghost use Rattle.tx_types.specs.declared.fault.Fault.TheVariants as fault;
 ghost use Rattle.tx_types.specs.declared.limits.TheConstants.{MAX_HELD_REQUESTS};
 ghost use Rattle.tx_types.specs.Names.{is_name as name_test};
 ghost use Rattle.tx_core.specs.Worlds.{Holds, route};

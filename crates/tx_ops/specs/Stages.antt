@@ -2,6 +2,11 @@
 use Rattle.std.specs.Prelude.{Option, Some, None, is_some, if◌then◌else◌}
 use Rattle.tx_types.specs.declared.mutation.Fate.{Fate}
 use Rattle.tx_types.specs.declared.mutation.Fate.TheVariants as fate
+use Rattle.tx_steps.specs.declared.call.Call.TheVariants as call
+use Rattle.tx_steps.specs.declared.op.Op.TheVariants as op
+use Rattle.tx_steps.specs.declared.step.Step.{Step}
+use Rattle.tx_steps.specs.declared.step.Step.TheVariants as step
+use Rattle.tx_steps.specs.Steps.{Text}
 use Rattle.tx_transaction.specs.declared.state.Phase.TheVariants as phase
 use Rattle.tx_transaction.specs.Buffers.{first_index, has_two_phase_lock, not_empty}
 use Rattle.tx_transaction.specs.Sessions.{SessionState, is_declared}
@@ -23,3 +28,10 @@ stage_by s (Some fate.Aborted) = Aborted
 -- how far it is
 abbrev pub stage_of : SessionState → SessionStage
 stage_of s = if is_declared s then (if not_empty s.buffer then stage_by s s.decision else Empty) else Open
+
+-- the session for which a step draws a commit timestamp, or which it commits or aborts
+abbrev pub ending_name : Step Text → Option Text
+ending_name (step.Act name op.Draw) = Some name
+ending_name (step.Send name call.Commit d) = Some name
+ending_name (step.Send name call.Abort d) = Some name
+ending_name _ = None

@@ -11,4 +11,4 @@ mod stage;
 
 pub use acts::act;
 pub use calls::{reply_to, send};
-pub use stage::SessionStage;
+pub use stage::{SessionStage, ending_name};

@@ -1,10 +1,12 @@
 //! How far a session is, by which a step may not be its next one.
-ghost use Rattle.std.specs.Prelude.{◌≡◌, ◌↔◌, true};
+ghost use Rattle.std.specs.Prelude.{◌≡◌, ◌↔◌, option_map, true};
+ghost use Rattle.tx_steps.specs.Steps.{asked, bytes_of};
 ghost use Rattle.tx_transaction.specs.Sessions.{can_draw};
 ghost use Rattle.tx_ops.specs.declared.stage.SessionStage.TheVariants as stages;
-ghost use Rattle.tx_ops.specs.Stages.{stage_of};
+ghost use Rattle.tx_ops.specs.Stages.{ending_name, stage_of};
 
 use tx_client::Phase;
+use tx_steps::{Call, Op, Step};
 use tx_transaction::Transaction;
 use tx_types::Fate;
 
@@ -65,5 +67,16 @@ impl SessionStage {
             SessionStage::Committed => "is committed",
             SessionStage::Aborted => "is aborted",
         }
+    }
+}
+
+/// The session for which a step draws a commit timestamp, or which it commits or aborts.
+pub fn ending_name<'a>(step: &Step<&'a str>) -> Option<&'a str>
+    ensures { option_map bytes_of result ≡ ending_name (asked step.now) }
+{
+    match *step {
+        Step::Act(name, Op::Draw) => Some(name),
+        Step::Send(name, Call::Commit | Call::Abort, _) => Some(name),
+        _ => None,
     }
 }

@@ -30,10 +30,10 @@ use tx_client::Session;
 use tx_core::Answer;
 use tx_journal::{JournalId, Seat};
 use tx_latch::Slot;
-use tx_ops::SessionStage;
+use tx_ops::{SessionStage, ending_name};
 use tx_reply::ScriptReply;
 use tx_sched::{Job, Turn};
-use tx_steps::{Call, Op, Step};
+use tx_steps::Step;
 use tx_transfer::{
     Collector, Context, PlainReply, Source, TransferProgress, TransferState, slots_of,
 };
@@ -193,11 +193,7 @@ impl<J: JournalId, L: Source, F: Families + Drop, R: Wait + Drop> ScriptJob<J, L
     )
         ensures { self.new ≡ self.old }
     {
-        let is_ending = matches!(
-            step,
-            Step::Act(_, Op::Draw) | Step::Send(_, Call::Commit | Call::Abort, _)
-        );
-        if let (true, Err(Cause::Order)) = (is_ending, answer) {
+        if matches!(answer, Err(Cause::Order)) && ending_name(step).is_some() {
             self.stage = Some((number, SessionStage::of(session.transaction())));
         }
     }

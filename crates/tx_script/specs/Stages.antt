@@ -3,26 +3,18 @@ use Rattle.std.specs.Prelude.{◌≡◌, ℕ, ◌+◌, List, ◌∷◌, ◌++◌
 use Rattle.serde_json.specs.Data.{Items}
 use Rattle.tx_types.specs.declared.fault.Cause.TheVariants.{Order}
 use Rattle.tx_types.specs.declared.key.Key.{Key}
-use Rattle.tx_steps.specs.declared.call.Call.TheVariants as call
-use Rattle.tx_steps.specs.declared.op.Op.TheVariants as op
 use Rattle.tx_steps.specs.declared.step.Step.{Step}
-use Rattle.tx_steps.specs.declared.step.Step.TheVariants as step
 use Rattle.tx_steps.specs.Lines.{data_said}
 use Rattle.tx_steps.specs.Steps.{Text}
 use Rattle.tx_engine.specs.Semantics.{EngineState, stops}
 use Rattle.tx_engine.specs.Slots.{Held, engine_state}
 use Rattle.tx_engine.specs.Stages.{stage_at}
 use Rattle.tx_ops.specs.declared.stage.SessionStage.{SessionStage}
+use Rattle.tx_ops.specs.Stages.{ending_name}
 use Rattle.tx_script.specs.Play.{line_turn, step_of}
 use Rattle.tx_script.specs.Players.{SoFar}
 
--- the session for which a step draws a commit timestamp, or which it commits or aborts
-abbrev pub ending_name : Step Text → Option Text
-ending_name (step.Act name op.Draw) = Some name
-ending_name (step.Send name call.Commit d) = Some name
-ending_name (step.Send name call.Abort d) = Some name
-ending_name _ = None
-
+-- how far the session is of a step that draws, commits or aborts, where it is live
 abbrev pub step_stage : EngineState → Option (Step Text) → Option SessionStage
 step_stage engine o = option_and_then (stage_at engine) (option_and_then ending_name o)
 

@@ -157,6 +157,7 @@ pub(crate) fn play_text<J: JournalId, F: Families>(
     ensures early { IfOk result (IsEarly number) }
     ensures notes { IfOk result (λ turned. NotesFault engine.new number line.now turned stage.new) }
     ensures same { OnErr result (engine.new ≡ engine.old) }
+    ensures err { IfErr result (λ why. why ≡ Broken.Memory) }
 {
     match play_line(alloc, engine, number, line)? {
         Ok(reply) => Ok(Turned::Goes(reply)),
@@ -183,6 +184,7 @@ pub(crate) fn play_found<J: JournalId, F: Families>(
     ensures early { IfOk result (IsEarly number) }
     ensures notes { IfOk result (λ turned. NotesFault engine.new number line.now turned stage.new) }
     ensures same { OnErr result (engine.new ≡ engine.old) }
+    ensures err { IfErr result (λ why. why ≡ Broken.Memory) }
 {
     match found {
         Found::End => {

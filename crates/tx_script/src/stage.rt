@@ -1,30 +1,19 @@
 //! How far the session is of a step that it may not make.
 ghost use Rattle.std.specs.Prelude.{◌≡◌, Some, option_map, IfOk, IfErr, IfSome};
-ghost use Rattle.tx_steps.specs.Steps.{asked, bytes_of};
+ghost use Rattle.tx_steps.specs.Steps.{asked};
 ghost use Rattle.tx_engine.specs.Slots.{AllSeated, engine_state};
-ghost use Rattle.tx_script.specs.Stages.{ending_name, step_stage, line_stage};
+ghost use Rattle.tx_script.specs.Stages.{step_stage, line_stage};
 
 use std::alloc::Global;
 use tx_cells::Families;
 use tx_engine::Engine;
 use tx_journal::JournalId;
-use tx_ops::SessionStage;
-use tx_steps::{Call, Line, Op, Program, Step};
+use tx_ops::{SessionStage, ending_name};
+use tx_steps::{Line, Program, Step};
 use tx_text::{Broken, Parts};
 use tx_types::Cause;
 
-// The session for which a step draws a commit timestamp, or which it commits or aborts.
-fn ending_name<'a>(step: &Step<&'a str>) -> Option<&'a str>
-    ensures { option_map bytes_of result ≡ ending_name (asked step.now) }
-{
-    match *step {
-        Step::Act(name, Op::Draw) => Some(name),
-        Step::Send(name, Call::Commit | Call::Abort, _) => Some(name),
-        _ => None,
-    }
-}
-
-// How far that session is, where it is live.
+// How far the session is of a step that draws, commits or aborts, where it is live.
 fn step_stage<J: JournalId, F: Families>(
     engine: &Engine<J, F>,
     step: Option<Step<&str>>,

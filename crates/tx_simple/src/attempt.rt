@@ -1,5 +1,5 @@
 //! A work in one transaction: one try of an update.
-ghost use Rattle.std.specs.Prelude.{◌≡◌, true, false, [], OnOk, IfOk, IfErr};
+ghost use Rattle.std.specs.Prelude.{◌≡◌, false, [], OnOk, IfOk, IfErr};
 ghost use Rattle.tx_transaction.specs.Sessions.{is_declared, has_primary};
 ghost use Rattle.tx_journal.specs.Senders.{IsSender};
 ghost use Rattle.tx_simple.specs.Reads.{HasSeenStart};

@@ -1,7 +1,5 @@
 //! How an update ends.
-ghost use Rattle.std.specs.Prelude.{◌≡◌, true, None, IfOk, IfErr};
-ghost use Rattle.tx_transaction.specs.Sessions.{finish_of};
-ghost use Rattle.tx_journal.specs.Known.{Known};
+ghost use Rattle.std.specs.Prelude.{◌≡◌, true, IfOk, IfErr};
 ghost use Rattle.tx_client.specs.Calls.{Seated};
 ghost use Rattle.tx_simple.specs.Failures.{may_go_further};
 ghost use Rattle.tx_simple.specs.Updates.{IsWithoutEffect, MayHaveDeclared};

@@ -1,5 +1,5 @@
 //! Rows in the order of their keys, and what is entered over them.
-ghost use Rattle.std.specs.Prelude.{◌≡◌, ◌≤◌, List, length, Some, OnOk, IfOk, IfErr, bytes_eq, IsTrue};
+ghost use Rattle.std.specs.Prelude.{◌≡◌, ◌≤◌, length, Some, OnOk, IfOk, IfErr, bytes_eq, IsTrue};
 ghost use Rattle.std.specs.List.{prefix_len, list_any};
 ghost use Rattle.tx_types.specs.declared.key.Key.{Key as Name};
 ghost use Rattle.tx_types.specs.declared.value.Value.{Value as Given};
