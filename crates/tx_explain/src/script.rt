@@ -216,7 +216,8 @@ fn refuse<W: Write>(alloc: Global, writer: &mut W, number: u64) -> Result<End, B
 /// Plays a script as `simulate` does, with lines put in that show each key, and writes the picture
 /// of its run. Where these are more lines than a script may have, it is not played: the one line
 /// that is written is that fault. Where a line stops the script, `stop` then says where and, as
-/// `simulate` does, how far its session was; else it says nothing.
+/// `simulate` does, how far its session was; else, and where memory to say it was refused, it says
+/// nothing.
 ///
 /// `Input` where a read failed, `Output` where a write or the flush failed, `Memory` where a growth
 /// was refused outside of a step's own calls.
@@ -259,7 +260,7 @@ pub fn explain<F: Families + Drop, M: Makes<F>, R: BufRead, W: Write>(
     )?;
     if end == End::Faulted {
         let counts = watched.counts.as_slice();
-        *stop = stop_of(alloc, lines.as_slice(), counts, written.as_slice(), stage)?;
+        *stop = stop_of(alloc, lines.as_slice(), counts, written.as_slice(), stage).unwrap_or(None);
     }
     write_all(writer, shown.as_bytes())?;
     Ok(end)
