@@ -1,7 +1,5 @@
 //! Two sessions over a store of two regions, in one thread: each line of the table is a call and
 //! what it answers. docs/LIBRARY.md goes through it.
-#![tactic(auto)]
-
 ghost use Rattle.std.specs.Prelude.{◌≡◌, length};
 
 mod regions;
@@ -43,9 +41,10 @@ fn seated<J: JournalId, R: Print + Wait>(
     }
 }
 
-fn main(rt: HostRuntime) -> Result<()> {
+/// Prints the table.
+pub fn show(rt: &HostRuntime) -> Result<()> {
     let alloc = rt.alloc();
-    head(&rt)?;
+    head(rt)?;
     let opened = journal(alloc)?;
-    run::<Brand, _>(&rt, alloc, opened)
+    run::<Brand, _>(rt, alloc, opened)
 }

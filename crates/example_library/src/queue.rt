@@ -1,7 +1,5 @@
 //! A queue of jobs in the store, and two clients that take from it on two threads: each takes the
 //! least job that is there, until none is left. No job is taken twice.
-#![tactic(auto)]
-
 use std::sync::Wait;
 use tx_kv::{Client, Failure, JournalId, Key, Program, Stop, Tx, Value, Work, with_store};
 
@@ -96,8 +94,9 @@ impl<R: Wait> Program<R> for Queue {
     }
 }
 
-fn main(rt: HostRuntime) -> anyhow::Result<()> {
-    let times = with_store(&rt, rt.alloc(), &[b"j\x08"], 2, Queue)?;
+/// Opens a store of two regions, and has two clients empty a queue in it.
+pub fn show(rt: &HostRuntime) -> anyhow::Result<()> {
+    let times = with_store(rt, rt.alloc(), &[b"j\x08"], 2, Queue)?;
     let once = times.is_some_and(|times| times.iter().all(|count: &u8| *count == 1));
     println!(rt; "{JOBS} jobs, each taken once: {once}")?;
     Ok(())

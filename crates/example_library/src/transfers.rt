@@ -1,7 +1,5 @@
 //! Money is moved between accounts by two clients on two threads. Whatever order the transfers come
 //! in, what the accounts have together stays the same.
-#![tactic(auto)]
-
 use std::sync::Wait;
 use tx_kv::{Client, Failure, JournalId, Key, Program, Stop, Tx, Value, Work, with_store};
 
@@ -83,7 +81,8 @@ impl<R: Wait> Program<R> for Bank {
     }
 }
 
-fn main(rt: HostRuntime) -> anyhow::Result<()> {
-    let total = with_store(&rt, rt.alloc(), &[b"m"], 2, Bank)?.unwrap_or(0);
+/// Opens a store of two regions, and has two clients move money in it.
+pub fn show(rt: &HostRuntime) -> anyhow::Result<()> {
+    let total = with_store(rt, rt.alloc(), &[b"m"], 2, Bank)?.unwrap_or(0);
     Ok(println!(rt; "4 accounts, {total} in all")?)
 }

@@ -1,5 +1,5 @@
 //! What the two sessions do.
-use crate::table::{line, line_at, line_ended, line_read, line_sent};
+use super::table::{line, line_at, line_ended, line_read, line_sent};
 use anyhow::{Context, Result};
 use std::alloc::Global;
 use std::sync::Wait;

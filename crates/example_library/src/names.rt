@@ -1,7 +1,5 @@
 //! Names that are each given once, by an index that is unique: two clients sign users up on two
 //! threads, both under the same names. Whoever comes first has the name, and only that user a row.
-#![tactic(auto)]
-
 use std::sync::Wait;
 use tx_kv::{
     Client, Failure, JournalId, Key, NotUpdated, Program, Stop, Tx, Value, Work, with_store,
@@ -103,8 +101,9 @@ impl<R: Wait> Program<R> for Office {
     }
 }
 
-fn main(rt: HostRuntime) -> anyhow::Result<()> {
-    let (signed, taken, right) = with_store(&rt, rt.alloc(), &[b"n\x05", b"p"], 2, Office)?;
+/// Opens a store of three regions, and has two clients sign users up in it.
+pub fn show(rt: &HostRuntime) -> anyhow::Result<()> {
+    let (signed, taken, right) = with_store(rt, rt.alloc(), &[b"n\x05", b"p"], 2, Office)?;
     println!(rt; "{signed} signed up, {taken} times a name was taken, all is right: {right}")?;
     Ok(())
 }

@@ -1,4 +1,4 @@
-use Rattle.example_sessions.proofs.main.Given as goal
+use Rattle.example_library.proofs.sessions.show.Given as goal
 
 -- the journal that was just opened
 abbrev pub ghosts-run : goal.ghosts-run
