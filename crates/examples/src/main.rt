@@ -65,6 +65,20 @@ const DRAWN: [&str; 4] = [
 
 const DRAWN_WITH_STEPS: [&str; 1] = ["falls_back.script"];
 
+// In which form the runs of which scripts are shown, whether with the machine's steps, and how that
+// is told.
+const SHOWN: &[(&[&str], PictureForm, bool, &str)] = &[
+    (&SCRIPTS, PictureForm::Text, false, "explained"),
+    (&SCRIPTS, PictureForm::Text, true, "explained with steps"),
+    (&DRAWN, PictureForm::Drawing, false, "drawn"),
+    (
+        &DRAWN_WITH_STEPS,
+        PictureForm::Drawing,
+        true,
+        "drawn with steps",
+    ),
+];
+
 const HISTORIES: [&str; 2] = ["markup_in_keys.history", "read_committed.history"];
 
 const RUNS: [&str; 1] = ["transfers.run"];
@@ -103,6 +117,22 @@ enum Kind {
     /// A history whose answer is a picture.
     DrawnHistory,
 }
+
+// Files of rows, how they are told, and what a row of each is.
+const ROWS: &[(&str, &str, Kind)] = &[
+    ("scripts.rows", ", over flat maps", Kind::Script),
+    ("scripts.rows", ", over nested maps", Kind::Nested),
+    ("checked.rows", ", over flat maps", Kind::Checked),
+    ("checked.rows", ", over nested maps", Kind::CheckedNested),
+    ("numbered.rows", "", Kind::Numbered),
+    ("traces.rows", "", Kind::Trace),
+    ("reasons.rows", "", Kind::Reason),
+    ("histories.rows", "", Kind::History),
+    ("histories.rows", ", with traces", Kind::TracedHistory),
+    ("ordered.rows", "", Kind::Ordered),
+    ("ordered.rows", ", with traces", Kind::TracedOrdered),
+    ("all.rows", "", Kind::AllOfHistory),
+];
 
 const NO_ORDER: Orders = Orders {
     sessions: false,
@@ -352,14 +382,11 @@ fn main(rt: HostRuntime) -> Result<()> {
         let shown = is_shown(&rt, name, Kind::Script)? && is_shown(&rt, name, Kind::Nested)?;
         println!(rt; "{name}: {}", verdict(shown))?;
     }
-    let (text, drawing) = (PictureForm::Text, PictureForm::Drawing);
-    tell_explained(&rt, &SCRIPTS, text, false, "explained")?;
-    tell_explained(&rt, &SCRIPTS, text, true, "explained with steps")?;
-    tell_explained(&rt, &DRAWN, drawing, false, "drawn")?;
-    tell_explained(&rt, &DRAWN_WITH_STEPS, drawing, true, "drawn with steps")?;
+    for (names, form, machine, how) in SHOWN {
+        tell_explained(&rt, names, *form, *machine, how)?;
+    }
     for name in HISTORIES {
-        let shown = is_drawn(&rt, name)?;
-        println!(rt; "{name}, drawn: {}", verdict(shown))?;
+        println!(rt; "{name}, drawn: {}", verdict(is_drawn(&rt, name)?))?;
     }
     for name in RUNS {
         let shown = run_is_shown::<FlatCells, _>(&rt, name)?
@@ -367,32 +394,11 @@ fn main(rt: HostRuntime) -> Result<()> {
         println!(rt; "{name}: {}", verdict(shown))?;
     }
     for name in TRACES {
-        let shown = is_shown(&rt, name, Kind::Trace)?;
-        println!(rt; "{name}: {}", verdict(shown))?;
+        println!(rt; "{name}: {}", verdict(is_shown(&rt, name, Kind::Trace)?))?;
     }
-    let flat = count_shown(&rt, "scripts.rows", Kind::Script)?;
-    println!(rt; "scripts.rows, over flat maps: {flat} as shown")?;
-    let nested = count_shown(&rt, "scripts.rows", Kind::Nested)?;
-    println!(rt; "scripts.rows, over nested maps: {nested} as shown")?;
-    let flat = count_shown(&rt, "checked.rows", Kind::Checked)?;
-    println!(rt; "checked.rows, over flat maps: {flat} as shown")?;
-    let nested = count_shown(&rt, "checked.rows", Kind::CheckedNested)?;
-    println!(rt; "checked.rows, over nested maps: {nested} as shown")?;
-    let numbered = count_shown(&rt, "numbered.rows", Kind::Numbered)?;
-    println!(rt; "numbered.rows: {numbered} as shown")?;
-    let traces = count_shown(&rt, "traces.rows", Kind::Trace)?;
-    println!(rt; "traces.rows: {traces} as shown")?;
-    let reasons = count_shown(&rt, "reasons.rows", Kind::Reason)?;
-    println!(rt; "reasons.rows: {reasons} as shown")?;
-    let histories = count_shown(&rt, "histories.rows", Kind::History)?;
-    println!(rt; "histories.rows: {histories} as shown")?;
-    let traced = count_shown(&rt, "histories.rows", Kind::TracedHistory)?;
-    println!(rt; "histories.rows, with traces: {traced} as shown")?;
-    let ordered = count_shown(&rt, "ordered.rows", Kind::Ordered)?;
-    println!(rt; "ordered.rows: {ordered} as shown")?;
-    let traced = count_shown(&rt, "ordered.rows", Kind::TracedOrdered)?;
-    println!(rt; "ordered.rows, with traces: {traced} as shown")?;
-    let all = count_shown(&rt, "all.rows", Kind::AllOfHistory)?;
-    println!(rt; "all.rows: {all} as shown")?;
+    for (file, how, kind) in ROWS {
+        let count = count_shown(&rt, file, *kind)?;
+        println!(rt; "{file}{how}: {count} as shown")?;
+    }
     Ok(())
 }

@@ -14,15 +14,15 @@ use Rattle.tx_core.specs.declared.event.Event.TheVariants.{Answered}
 use Rattle.tx_core.specs.Worlds.{IsWorldRun}
 use Rattle.tx_core.proofs.seats.Beginnings.{begins_more}
 use Rattle.tx_core.proofs.seats.Stays.{drawer_on, among_on}
-use Rattle.tx_run.specs.declared.reply.LineAnswer.{LineAnswer}
-use Rattle.tx_run.specs.declared.reply.LineAnswer.TheVariants.{Plain, Ended}
-use Rattle.tx_run.specs.declared.reply.LineReply.{LineReply}
-use Rattle.tx_run.specs.Outcomes.{IsTold, start_of, AreApart, TellsOutcomes}
-use Rattle.tx_run.specs.Pairs.{TellsPair}
-use Rattle.tx_run.specs.Tells.{TellsLine}
+use Rattle.tx_workload.specs.declared.reply.LineAnswer.{LineAnswer}
+use Rattle.tx_workload.specs.declared.reply.LineAnswer.TheVariants.{Plain, Ended}
+use Rattle.tx_workload.specs.declared.reply.LineReply.{LineReply}
+use Rattle.tx_workload.specs.Outcomes.{IsTold, start_of, AreApart, TellsOutcomes}
+use Rattle.tx_workload.specs.Pairs.{TellsPair}
+use Rattle.tx_workload.specs.Tells.{TellsLine}
 use Rattle.tx_transfer.proofs.TransferWrites.{between_on}
-use Rattle.tx_run.specs.Logs.{StandsBy, TellsBy}
-use Rattle.tx_run.specs.Answers.{Answers, EndsSo, IsReply, has_fault, is_fault}
+use Rattle.tx_workload.specs.Logs.{StandsBy, TellsBy}
+use Rattle.tx_workload.specs.Answers.{Answers, EndsSo, IsReply, has_fault, is_fault}
 use Rattle.tx_run.specs.Jobs.{IsAbove, AreAnswered, AreFalling, AreGathered, Output, IsLearnt, Joins, AreJoined}
 
 pairs_append : {X : Type 0} (R : X → X → Type 0) (xs ys : List X) → AllPairs R xs → AllPairs R ys

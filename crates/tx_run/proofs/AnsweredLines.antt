@@ -7,14 +7,14 @@ use Rattle.std.proofs.lemmas.List.Folds.{list_any-append}
 use Rattle.tx_types.specs.declared.fault.Cause.{Cause}
 use Rattle.tx_core.specs.Histories.{History}
 use Rattle.tx_transaction.specs.Buffers.{Entries}
-use Rattle.tx_run.specs.declared.reply.LineAnswer.{LineAnswer}
-use Rattle.tx_run.specs.declared.reply.LineAnswer.TheVariants.{Plain, Ended}
-use Rattle.tx_run.specs.declared.reply.LineReply.{LineReply}
+use Rattle.tx_workload.specs.declared.reply.LineAnswer.{LineAnswer}
+use Rattle.tx_workload.specs.declared.reply.LineAnswer.TheVariants.{Plain, Ended}
+use Rattle.tx_workload.specs.declared.reply.LineReply.{LineReply}
 use Rattle.tx_run.specs.declared.state.JobState.{JobState}
 use Rattle.tx_run.specs.declared.state.JobState.TheVariants.{Free, Live, Transfer, Taken}
 use Rattle.tx_run.specs.States.{going_of, is_transfer}
-use Rattle.tx_run.specs.Answers.{Answers, EndsSo, has_fault, is_fault, numbers_of}
-use Rattle.tx_run.specs.Logs.{KeepsAnswer, Logged, answer_to}
+use Rattle.tx_workload.specs.Answers.{Answers, EndsSo, has_fault, is_fault, numbers_of}
+use Rattle.tx_workload.specs.Logs.{KeepsAnswer, Logged, answer_to}
 use Rattle.tx_run.specs.Jobs.{JobGoesOn, IsSound, MayAnswer, Output, Promises, Working, job_lines, with_line}
 
 -- ---- step after step

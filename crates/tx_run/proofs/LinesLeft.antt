@@ -12,8 +12,8 @@ use Rattle.tx_types.specs.declared.value.Value.{Value}
 use Rattle.tx_evidence.specs.Buffers.{AllBy}
 use Rattle.tx_evidence.proofs.Buffers.{all_more}
 use Rattle.tx_run.specs.Jobs.{IsSound, Working}
-use Rattle.tx_run.specs.Readers.{HasSession}
-use Rattle.tx_run.specs.Tells.{AreEntered, AreOf, AreOwn, ComeLater, EnteredBy, Owns, session_name}
+use Rattle.tx_workload.specs.Readers.{HasSession}
+use Rattle.tx_workload.specs.Tells.{AreEntered, AreOf, AreOwn, ComeLater, EnteredBy, Owns, session_name}
 
 abbrev Rise : Option (List ℕ) → List ℕ → Type 0
 Rise source lines = IfSome source (λ text. AllPairs (λ m n. m < n) lines)

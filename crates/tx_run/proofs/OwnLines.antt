@@ -29,11 +29,11 @@ use Rattle.tx_client.specs.Calls.{Seated}
 use Rattle.tx_transfer.specs.Acts.{Acts}
 use Rattle.tx_ops.specs.Calls.{Said, call_walk}
 use Rattle.tx_transfer.specs.Sends.{SendsOver}
-use Rattle.tx_run.specs.Faults.{opens}
-use Rattle.tx_run.specs.Readers.{HasSession}
-use Rattle.tx_run.specs.ScriptLines.{KeepsText, is_named, lines_of_session, name_in, numbered, session_names, session_of, step_for}
-use Rattle.tx_run.specs.Tells.{AreEntered, AreOf, AreOwn, ComeLater, EnteredBy, EnteredBefore, SaidTells, SaysOwn, session_name}
-use Rattle.tx_run.proofs.StepReplies.{act_tells, send_tells}
+use Rattle.tx_workload.specs.Faults.{opens}
+use Rattle.tx_workload.specs.Readers.{HasSession}
+use Rattle.tx_workload.specs.ScriptLines.{KeepsText, is_named, lines_of_session, name_in, numbered, session_names, session_of, step_for}
+use Rattle.tx_workload.specs.Tells.{AreEntered, AreOf, AreOwn, ComeLater, EnteredBy, EnteredBefore, SaidTells, SaysOwn, session_name}
+use Rattle.tx_workload.proofs.StepReplies.{act_tells, send_tells}
 
 -- ---- whose a line is
 

@@ -7,7 +7,7 @@ use Rattle.std.proofs.lemmas.Option.{slice_get_within, get_or_from_slice_get, sl
 use Rattle.std.proofs.lemmas.List.{length-map, map-append}
 use Rattle.tx_journal.specs.Known.{Known, known}
 use Rattle.tx_run.specs.Jobs.{Working, Output, HaveOwnSeats, AreAnswered, AreFalling, AreFrom, Promises, job_lines}
-use Rattle.tx_run.specs.Answers.{Answers}
+use Rattle.tx_workload.specs.Answers.{Answers}
 
 -- one more job, of a seat two below the last
 pub own_push : (last : ℕ) (jobs : List Working) (job : Working) → HaveOwnSeats last jobs → job.number ≡ length jobs

@@ -7,11 +7,11 @@ use Rattle.tx_core.specs.Histories.{History, Among}
 use Rattle.tx_core.specs.Worlds.{IsWorldRun}
 use Rattle.tx_core.proofs.seats.Beginnings.{begins_all}
 use Rattle.tx_transfer.specs.Totals.{IsTotal}
-use Rattle.tx_run.specs.declared.reply.LineAnswer.{LineAnswer}
-use Rattle.tx_run.specs.declared.reply.LineAnswer.TheVariants.{Plain, Ended}
-use Rattle.tx_run.specs.declared.reply.LineReply.{LineReply}
-use Rattle.tx_run.specs.Outcomes.{IsTold, TellsOutcomes}
-use Rattle.tx_run.specs.Totals.{LiesUpTo, TellsTotal, seen_in}
+use Rattle.tx_workload.specs.declared.reply.LineAnswer.{LineAnswer}
+use Rattle.tx_workload.specs.declared.reply.LineAnswer.TheVariants.{Plain, Ended}
+use Rattle.tx_workload.specs.declared.reply.LineReply.{LineReply}
+use Rattle.tx_workload.specs.Outcomes.{IsTold, TellsOutcomes}
+use Rattle.tx_workload.specs.Totals.{LiesUpTo, TellsTotal, seen_in}
 
 lies_upto : (before : History) (at : ℕ) → ((t c : ℕ) → Among before (Answered t (outcome.Committed c)) → c ≤ at)
     → (answer : LineAnswer) → IsTold before answer → LiesUpTo at answer

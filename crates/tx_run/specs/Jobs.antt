@@ -7,12 +7,12 @@ use Rattle.tx_core.specs.Histories.{History, Begins, drawer}
 use Rattle.tx_journal.specs.Known.{Known}
 use Rattle.tx_transaction.specs.Buffers.{Entries}
 use Rattle.tx_text.specs.Lines.{lines_of}
-use Rattle.tx_run.specs.declared.reply.LineAnswer.{LineAnswer}
-use Rattle.tx_run.specs.declared.reply.LineAnswer.TheVariants.{Plain, Ended}
-use Rattle.tx_run.specs.declared.reply.LineReply.{LineReply}
-use Rattle.tx_run.specs.Logs.{Logged, TellsBy}
-use Rattle.tx_run.specs.Answers.{Answers, EndsSo, IsReply, numbers_of}
-use Rattle.tx_run.specs.ScriptLines.{firsts_of, sessions_of}
+use Rattle.tx_workload.specs.declared.reply.LineAnswer.{LineAnswer}
+use Rattle.tx_workload.specs.declared.reply.LineAnswer.TheVariants.{Plain, Ended}
+use Rattle.tx_workload.specs.declared.reply.LineReply.{LineReply}
+use Rattle.tx_workload.specs.Logs.{Logged, TellsBy}
+use Rattle.tx_workload.specs.Answers.{Answers, EndsSo, IsReply, numbers_of}
+use Rattle.tx_workload.specs.ScriptLines.{firsts_of, sessions_of}
 
 -- a job at work: its number, its log, the number of the line of a transfer on its way, those of the
 -- lines that are left in the order of the script, what its live session has entered, and whether a

@@ -2,13 +2,13 @@
 //! reads, and then its writes.
 ghost use Rattle.std.specs.Prelude.{◌≡◌, ◌∷◌, map, is_some, [], None, Ok, true, false, IfErr, IfNone, IfOk, IfSome, OnErr, OnOk};
 ghost use Rattle.tx_run.specs.Jobs.{JobGoesOn, MayAnswer, Promises, job_lines, with_line};
-ghost use Rattle.tx_run.specs.LineNumbers.{number_of};
-ghost use Rattle.tx_run.specs.Logs.{answer_to};
+ghost use Rattle.tx_workload.specs.LineNumbers.{number_of};
+ghost use Rattle.tx_workload.specs.Logs.{answer_to};
 ghost use Rattle.tx_run.specs.States.{going_of, buffer_of};
-ghost use Rattle.tx_run.specs.Readers.{HasSession};
-ghost use Rattle.tx_run.specs.Tells.{AreEntered, AreOf, ComeLater, EnteredBy, TellsLine, is_refusal, session_name};
-ghost use Rattle.tx_run.specs.Steps.{SaysStep};
-ghost use Rattle.tx_run.specs.declared.reply.LineAnswer.TheVariants.{Plain};
+ghost use Rattle.tx_workload.specs.Readers.{HasSession};
+ghost use Rattle.tx_workload.specs.Tells.{AreEntered, AreOf, ComeLater, EnteredBy, TellsLine, is_refusal, session_name};
+ghost use Rattle.tx_workload.specs.Steps.{SaysStep};
+ghost use Rattle.tx_workload.specs.declared.reply.LineAnswer.TheVariants.{Plain};
 ghost use Rattle.tx_core.specs.Histories.{Begins};
 ghost use Rattle.tx_evidence.specs.Buffers.{AllBy};
 ghost use Rattle.tx_transfer.specs.Sources.{HasPair};
@@ -18,9 +18,7 @@ mod latches;
 mod lines;
 mod transfer;
 
-use crate::log::RunLog;
 use crate::output::JobOutput;
-use crate::session_line::SessionLine;
 use crate::state::JobState;
 use std::marker::Model;
 use std::mem::replace;
@@ -38,6 +36,7 @@ use tx_transfer::{
     Collector, Context, PlainReply, Source, TransferProgress, TransferState, slots_of,
 };
 use tx_types::{Cause, Fault, Key};
+use tx_workload::{RunLog, SessionLine};
 
 /// A session, the lines that are left of it, and what was answered. Contracts see its number, its
 /// log, which lines are left, whether a transfer is on its way, what is entered, and whether a
@@ -61,9 +60,9 @@ pub(crate) struct ScriptJob<J: JournalId, L: Source, F: Families + Drop, R: Wait
 impl<J: JournalId, L: Source, F: Families + Drop, R: Wait + Drop> Model for ScriptJob<J, L, F, R> {
     ghost use Rattle.std.specs.Prelude.{map, reverse};
     ghost use Rattle.tx_run.specs.Jobs.{IsSound, Working};
-    ghost use Rattle.tx_run.specs.LineNumbers.{number_of};
+    ghost use Rattle.tx_workload.specs.LineNumbers.{number_of};
     ghost use Rattle.tx_run.specs.States.{going_of, buffer_of};
-    ghost use Rattle.tx_run.specs.Tells.{Owns};
+    ghost use Rattle.tx_workload.specs.Tells.{Owns};
 
     ghost Value = { Working };
 

@@ -3,27 +3,18 @@
 //! of them send to one store, and a `transfer` moves an amount between the balances of two keys.
 #![tactic(auto)]
 
-mod counts;
 mod job;
-mod log;
 mod output;
 mod play;
-mod replies;
-mod reply;
 mod run;
-mod script;
-mod seeds;
-mod session_line;
 mod sessions;
 mod settings;
 mod state;
-mod write;
 
 pub use play::RunResult;
-pub use replies::Replies;
-pub use reply::{LineAnswer, LineReply};
 pub use run::run_script;
 pub use settings::Settings;
 pub use tx_cells::{Makes, Plain};
 pub use tx_ops::SessionStage;
 pub use tx_transfer::{PlainReply, Refusals};
+pub use tx_workload::{LineAnswer, LineReply, Replies};

@@ -1,10 +1,10 @@
 //! What comes of a session of a run.
-use crate::log::RunLog;
 use std::alloc::Global;
 use std::marker::Model;
 use tx_journal::JournalId;
 use tx_ops::SessionStage;
 use tx_transfer::{Refusals, Source};
+use tx_workload::RunLog;
 
 /// What came of a session's lines. Contracts see its number, its log and whether a fault of the
 /// script ended it.

@@ -1,23 +1,18 @@
 //! Playing a script: its seeds, and then its sessions side by side, by workers.
 ghost use Rattle.std.specs.Prelude.{◌≡◌, ◌+◌, ◌≤◌, ◌++◌, [], All, IfOk, OnOk, length, map, vec_len};
 ghost use Rattle.std.specs.List.{list_any};
-ghost use Rattle.tx_run.specs.Answers.{IsReply, has_fault, numbers_of};
-ghost use Rattle.tx_run.specs.Outcomes.{TellsOutcomes};
+ghost use Rattle.tx_workload.specs.Answers.{IsReply, has_fault, numbers_of};
+ghost use Rattle.tx_workload.specs.Outcomes.{TellsOutcomes};
 ghost use Rattle.tx_run.specs.Jobs.{AreFalling, AreFrom, AreGathered, ComesOf};
-ghost use Rattle.tx_run.specs.LineNumbers.{numbers_in};
-ghost use Rattle.tx_run.specs.ScriptLines.{opening_of};
-ghost use Rattle.tx_run.specs.Scripts.{IsWithin};
-ghost use Rattle.tx_run.specs.Pairs.{TellsPair};
-ghost use Rattle.tx_run.specs.Tells.{AreOwn, OpensWith, TellsLine};
-ghost use Rattle.tx_run.specs.Totals.{TellsTotal, seen_in};
+ghost use Rattle.tx_workload.specs.LineNumbers.{numbers_in};
+ghost use Rattle.tx_workload.specs.ScriptLines.{opening_of};
+ghost use Rattle.tx_workload.specs.Scripts.{IsWithin};
+ghost use Rattle.tx_workload.specs.Pairs.{TellsPair};
+ghost use Rattle.tx_workload.specs.Tells.{AreOwn, OpensWith, TellsLine};
+ghost use Rattle.tx_workload.specs.Totals.{TellsTotal, seen_in};
 ghost use Rattle.tx_core.specs.Histories.{History, Begins};
 
 use crate::output::{JobOutput, count_collected, count_refusals, stages_of};
-use crate::replies::Replies;
-use crate::reply::{LineAnswer, LineReply};
-use crate::script::Script;
-use crate::seeds::play_seeds;
-use crate::session_line::{ScriptLine, SessionLine};
 use crate::sessions::{gather, two_seats, work};
 use crate::settings::Settings;
 use std::alloc::Global;
@@ -32,6 +27,7 @@ use tx_store::Store;
 use tx_text::Broken;
 use tx_transfer::{Context, PlainReply, Refusals, Source, read_total};
 use tx_types::Fault;
+use tx_workload::{LineAnswer, LineReply, Replies, Script, ScriptLine, SessionLine, play_seeds};
 
 // A store, and the seats for others than its regions.
 fn open<J: JournalId, F: Families + Drop, M: Makes<F>>(

@@ -1,18 +1,17 @@
 //! A run, from the first byte of its script to the last of its answers.
 ghost use Rattle.std.specs.Prelude.{◌≡◌, All, IfOk, IfSome, OnErr};
-ghost use Rattle.tx_run.specs.Faults.{IsFaultless};
-ghost use Rattle.tx_run.specs.Outcomes.{TellsOutcomes};
-ghost use Rattle.tx_run.specs.Pairs.{TellsPair};
-ghost use Rattle.tx_run.specs.Tells.{AllTell};
-ghost use Rattle.tx_run.specs.Totals.{TellsTotal};
-ghost use Rattle.tx_run.specs.Answers.{has_fault};
+ghost use Rattle.tx_workload.specs.Faults.{IsFaultless};
+ghost use Rattle.tx_workload.specs.Outcomes.{TellsOutcomes};
+ghost use Rattle.tx_workload.specs.Pairs.{TellsPair};
+ghost use Rattle.tx_workload.specs.Tells.{AllTell};
+ghost use Rattle.tx_workload.specs.Totals.{TellsTotal};
+ghost use Rattle.tx_workload.specs.Answers.{has_fault};
 ghost use Rattle.tx_run.specs.Jobs.{ComesOfText};
-ghost use Rattle.tx_run.specs.Texts.{IsRunText, IsTextFrom, WritesText, WritesPart, end_of};
+ghost use Rattle.tx_workload.specs.Texts.{IsTextFrom, WritesText, WritesPart};
+ghost use Rattle.tx_run.specs.Texts.{IsRunText, end_of};
 
 use crate::play::{RunResult, play_script};
-use crate::script::read_script;
 use crate::settings::Settings;
-use crate::write::{write_all, write_fault};
 use std::alloc::Global;
 use std::io::{BufRead, Write};
 use std::marker::Brand;
@@ -22,6 +21,7 @@ use tx_cells::{Families, Makes};
 use tx_sched::Gate;
 use tx_text::{Broken, End};
 use tx_transfer::Source;
+use tx_workload::{read_script, write_all, write_fault};
 
 // Reads the script of this text, plays it, and writes what came of it.
 fn run<L, F, M, G, R, B, W>(
@@ -63,7 +63,7 @@ where
     };
     let played = play_script::<L, F, M, G, R>(rt, alloc, settings, make, gate, script)?;
     played.seen.show();
-    write_all(alloc, writer, &played)?;
+    write_all(alloc, writer, &played.replies, played.total)?;
     let end = if played.faulted {
         End::Faulted
     } else {

@@ -1,18 +1,16 @@
 //! The sessions of a run: their jobs, which workers make side by side, and what these came to.
 ghost use Rattle.std.specs.Prelude.{◌≡◌, ◌+◌, ◌≤◌, All, IfOk, IfSome, OnOk, length, map, vec_len};
 ghost use Rattle.std.specs.List.{list_any};
-ghost use Rattle.tx_run.specs.Answers.{IsReply, numbers_of};
-ghost use Rattle.tx_run.specs.Outcomes.{TellsOutcomes};
+ghost use Rattle.tx_workload.specs.Answers.{IsReply, numbers_of};
+ghost use Rattle.tx_workload.specs.Outcomes.{TellsOutcomes};
 ghost use Rattle.tx_run.specs.Jobs.{IsAbove, AreAnswered, AreFalling, AreFrom, AreGathered, HaveOwnSeats, Joins};
 ghost use Rattle.tx_run.specs.Jobs.{job_lines};
-ghost use Rattle.tx_run.specs.LineNumbers.{numbers_in};
-ghost use Rattle.tx_run.specs.Pairs.{TellsPair};
-ghost use Rattle.tx_run.specs.Tells.{AreOwn, TellsLine};
+ghost use Rattle.tx_workload.specs.LineNumbers.{numbers_in};
+ghost use Rattle.tx_workload.specs.Pairs.{TellsPair};
+ghost use Rattle.tx_workload.specs.Tells.{AreOwn, TellsLine};
 
 use crate::job::ScriptJob;
 use crate::output::JobOutput;
-use crate::replies::Replies;
-use crate::session_line::SessionLine;
 use crate::settings::Settings;
 use std::alloc::Global;
 use std::sync::{Arc, Wait};
@@ -24,6 +22,7 @@ use tx_store::Store;
 use tx_text::Broken;
 use tx_transfer::{Collector, Context, Source};
 use tx_types::Fault;
+use tx_workload::{Replies, SessionLine};
 
 /// The last two of the seats: for a session, and for its resolver.
 pub(crate) fn two_seats<J: JournalId>(seats: &mut Vec<Seat<J>>) -> Option<(Seat<J>, Seat<J>)>

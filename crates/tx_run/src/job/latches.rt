@@ -5,7 +5,6 @@ ghost use Rattle.tx_latch.specs.Slots.{slot_of_key};
 ghost use Rattle.tx_run.specs.Latches.{key_of};
 
 use super::ScriptJob;
-use crate::session_line::LatchNeed;
 use std::sync::Wait;
 use tx_cells::Families;
 use tx_client::Session;
@@ -13,6 +12,7 @@ use tx_journal::JournalId;
 use tx_latch::{Slot, slot_of};
 use tx_transfer::Source;
 use tx_types::Fault;
+use tx_workload::LatchNeed;
 
 // The slot of the key that the request of a line is of: its own, and that of no other key of the
 // buffer.

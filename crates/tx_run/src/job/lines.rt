@@ -2,16 +2,15 @@
 ghost use Rattle.std.specs.Prelude.{◌≡◌, ◌+◌, true, None, Some};
 ghost use Rattle.tx_steps.specs.Steps.{asked, IsApart};
 ghost use Rattle.tx_run.specs.Jobs.{JobGoesOn, MayAnswer, with_line};
-ghost use Rattle.tx_run.specs.LineNumbers.{number_of};
-ghost use Rattle.tx_run.specs.Readers.{HasSession};
-ghost use Rattle.tx_run.specs.Steps.{Says, SaysStep};
-ghost use Rattle.tx_run.specs.Tells.{ComeLater, EnteredBy, EnteredBefore, IsBegun, SaidTells, SaysOfSession, SaysOwn, is_refusal, session_name};
+ghost use Rattle.tx_workload.specs.LineNumbers.{number_of};
+ghost use Rattle.tx_workload.specs.Readers.{HasSession};
+ghost use Rattle.tx_workload.specs.Steps.{Says, SaysStep};
+ghost use Rattle.tx_workload.specs.Tells.{ComeLater, EnteredBy, EnteredBefore, IsBegun, SaidTells, SaysOfSession, SaysOwn, is_refusal, session_name};
 ghost use Rattle.tx_evidence.specs.Buffers.{AllBy};
 ghost use Rattle.tx_transfer.specs.Replies.{said_of};
 ghost use Rattle.tx_transfer.specs.Sources.{HasPair, pair_of};
 
 use super::ScriptJob;
-use crate::session_line::{ScriptLine, SessionLine};
 use crate::state::JobState;
 use std::sync::Wait;
 use tx_cells::Families;
@@ -22,6 +21,7 @@ use tx_steps::{Line, Op, Program, Step};
 use tx_text::Parts;
 use tx_transfer::{PlainReply, Source, act, send};
 use tx_types::{Cause, is_name};
+use tx_workload::{ScriptLine, SessionLine};
 
 impl<J: JournalId, L: Source, F: Families + Drop, R: Wait + Drop> ScriptJob<J, L, F, R> {
     fn begin(&mut self, number: u64, seat: Seat<J>)

@@ -1,8 +1,8 @@
 //! A transfer of a session of a run: it begins, goes on, and ends.
 ghost use Rattle.std.specs.Prelude.{◌≡◌, ◌≢◌, true, Some};
 ghost use Rattle.tx_run.specs.Jobs.{JobGoesOn, MayAnswer, with_line};
-ghost use Rattle.tx_run.specs.Steps.{SaysStep};
-ghost use Rattle.tx_run.specs.Tells.{is_refusal};
+ghost use Rattle.tx_workload.specs.Steps.{SaysStep};
+ghost use Rattle.tx_workload.specs.Tells.{is_refusal};
 ghost use Rattle.tx_transfer.specs.Sources.{HasPair};
 
 use super::ScriptJob;

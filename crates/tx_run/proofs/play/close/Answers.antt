@@ -1,9 +1,9 @@
 use Rattle.std.proofs.Common.{All, List, sym, subst, ◌∙◌}
 use Rattle.tx_types.specs.declared.key.Key.{Key}
 use Rattle.tx_core.specs.Histories.{History}
-use Rattle.tx_run.specs.Answers.{numbers_of}
+use Rattle.tx_workload.specs.Answers.{numbers_of}
 use Rattle.tx_run.specs.Jobs.{AreGathered}
-use Rattle.tx_run.specs.Tells.{TellsLine}
+use Rattle.tx_workload.specs.Tells.{TellsLine}
 use Rattle.tx_run.proofs.AllAnswers.{gathered_on}
 use Rattle.tx_run.proofs.play.close.Goals as goal
 

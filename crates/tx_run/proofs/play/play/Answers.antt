@@ -1,6 +1,6 @@
 use Rattle.std.proofs.Common.{ℕ, List, sym, subst, ◌∙◌}
 use Rattle.tx_run.specs.Jobs.{AreGathered}
-use Rattle.tx_run.specs.LineNumbers.{numbers_in}
+use Rattle.tx_workload.specs.LineNumbers.{numbers_in}
 use Rattle.tx_run.proofs.AllAnswers.{faults}
 use Rattle.tx_run.proofs.OwnSeats.{if_ok}
 use Rattle.tx_run.proofs.play.play.Goals as goal

@@ -1,7 +1,7 @@
 use Rattle.std.proofs.Common.{All, ◌++◌, ℕ, List, map, sym, ap, subst, ◌∙◌}
-use Rattle.tx_run.specs.declared.reply.LineReply.{LineReply}
-use Rattle.tx_run.specs.Answers.{numbers_of}
-use Rattle.tx_run.specs.Tells.{TellsLine}
+use Rattle.tx_workload.specs.declared.reply.LineReply.{LineReply}
+use Rattle.tx_workload.specs.Answers.{numbers_of}
+use Rattle.tx_workload.specs.Tells.{TellsLine}
 use Rattle.tx_run.proofs.play.play_opening.Goals as goal
 
 pub returns-clause-each : goal.returns-clause-each

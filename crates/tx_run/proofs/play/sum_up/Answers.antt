@@ -1,4 +1,4 @@
-use Rattle.tx_run.proofs.Evidence.{lines_tell_on}
+use Rattle.tx_workload.proofs.Evidence.{lines_tell_on}
 use Rattle.tx_run.proofs.AllAnswers.{outcomes_on}
 use Rattle.tx_run.proofs.Totals.{tells_total}
 use Rattle.tx_run.proofs.play.sum_up.Goals as goal

@@ -1,9 +1,9 @@
 use Rattle.std.proofs.Common.{map}
-use Rattle.tx_run.specs.LineNumbers.{numbers_in}
-use Rattle.tx_run.proofs.Evidence.{all_tell, opens_with}
+use Rattle.tx_workload.specs.LineNumbers.{numbers_in}
+use Rattle.tx_workload.proofs.Evidence.{all_tell, opens_with}
 use Rattle.tx_run.proofs.OwnLines.{own_lines}
-use Rattle.tx_run.proofs.ReaderStates.{comes_of_text}
-use Rattle.tx_run.proofs.WrittenLines.{from_played, on_any_err}
+use Rattle.tx_run.proofs.ComesOfTexts.{comes_of_text}
+use Rattle.tx_workload.proofs.WrittenLines.{from_played, on_any_err}
 use Rattle.tx_run.proofs.run.run.Goals as goal
 
 pub returns-clause-comes : goal.returns-clause-comes

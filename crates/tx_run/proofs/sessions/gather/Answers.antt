@@ -2,7 +2,7 @@ use Rattle.std.proofs.Common.{◌≡◌, List, refl, sym, ap, subst, ◌∙◌}
 use Rattle.std.specs.List.{list_any}
 use Rattle.tx_run.specs.Jobs.{AreFalling, AreJoined, Output}
 use Rattle.tx_run.proofs.AllAnswers.{AreLeft, none_told, none_above, first_above, left_next, joined_none, joined_more, one_goes, all_went, none_started, faulted_more}
-use Rattle.tx_run.proofs.Sources.{none_pairs}
+use Rattle.tx_workload.proofs.Sources.{none_pairs}
 use Rattle.tx_run.proofs.sessions.gather.Goals as goal
 
 pub loop-output-init : goal.loop-output-init

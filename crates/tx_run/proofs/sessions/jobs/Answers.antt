@@ -1,6 +1,6 @@
 use Rattle.std.proofs.Common.{◌+◌, length, map, vec_len, sym, ap, subst, ◌∙◌, arith}
 use Rattle.tx_run.specs.Jobs.{HaveOwnSeats, job_lines}
-use Rattle.tx_run.specs.LineNumbers.{number_of, numbers_in}
+use Rattle.tx_workload.specs.LineNumbers.{number_of, numbers_in}
 use Rattle.tx_run.proofs.OwnSeats.{own_push, map_push}
 use Rattle.tx_run.proofs.AllAnswers.{one_goes, all_went}
 use Rattle.tx_run.proofs.LinesLeft.{next_own}

@@ -1,6 +1,6 @@
 use Rattle.std.proofs.Common.{◌≡◌, ◌+◌, ◌*◌, ◌≤◌, ◌++◌, length, map, vec_len}
 use Rattle.tx_run.specs.Jobs.{AreFrom, HaveOwnSeats, job_lines}
-use Rattle.tx_run.specs.LineNumbers.{numbers_in}
+use Rattle.tx_workload.specs.LineNumbers.{numbers_in}
 use Rattle.tx_run.proofs.sessions.jobs.Given as goal
 
 abbrev pub invariant-loop-lines : goal.invariant-loop-lines

@@ -1,15 +1,15 @@
 use Rattle.std.proofs.Common.{◌+◌, ◌++◌, sym, ap, subst, ◌∙◌, All, List, ℕ}
 use Rattle.tx_core.proofs.seats.Beginnings.{extends_begins}
-use Rattle.tx_run.specs.declared.reply.LineReply.{LineReply}
+use Rattle.tx_workload.specs.declared.reply.LineReply.{LineReply}
 use Rattle.tx_core.specs.Histories.{History, Begins}
 use Rattle.std.proofs.lemmas.List.Elements.{All-append}
-use Rattle.tx_run.specs.Outcomes.{TellsOutcomes}
-use Rattle.tx_run.specs.Pairs.{TellsPair}
-use Rattle.tx_run.specs.Tells.{TellsLine}
-use Rattle.tx_run.specs.Logs.{TellsBy}
+use Rattle.tx_workload.specs.Outcomes.{TellsOutcomes}
+use Rattle.tx_workload.specs.Pairs.{TellsPair}
+use Rattle.tx_workload.specs.Tells.{TellsLine}
+use Rattle.tx_workload.specs.Logs.{TellsBy}
 use Rattle.tx_run.specs.Jobs.{IsAbove, Output, Joins}
-use Rattle.tx_run.proofs.SessionAnswers.{tells_on}
-use Rattle.tx_run.proofs.Evidence.{lines_tell_on}
+use Rattle.tx_workload.proofs.SessionAnswers.{tells_on}
+use Rattle.tx_workload.proofs.Evidence.{lines_tell_on}
 use Rattle.tx_run.proofs.AllAnswers.{joined, joined_above, outcomes_on, all_above_on}
 use Rattle.tx_run.proofs.sessions.join.Goals as goal
 

@@ -1,5 +1,5 @@
 use Rattle.std.proofs.Common.{◌+◌, length, vec_len, arith}
-use Rattle.tx_run.specs.LineNumbers.{numbers_in}
+use Rattle.tx_workload.specs.LineNumbers.{numbers_in}
 use Rattle.tx_run.proofs.OwnSeats.{own_distinct, falling, answered_lines}
 use Rattle.tx_run.proofs.sessions.work.Goals as goal
 

@@ -1,6 +1,6 @@
 use Rattle.std.proofs.Common.{ℕ, [], Some, map, sym, ap, ◌∙◌}
 use Rattle.std.specs.Prelude.{reverse}
-use Rattle.tx_run.specs.LineNumbers.{number_of}
+use Rattle.tx_workload.specs.LineNumbers.{number_of}
 use Rattle.tx_run.specs.States.{buffer_of, going_of}
 use Rattle.tx_run.specs.Jobs.{Working}
 use Rattle.tx_run.proofs.job.ScriptJob.advance_transfer.Goals as goal

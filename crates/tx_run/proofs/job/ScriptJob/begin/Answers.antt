@@ -1,4 +1,4 @@
-use Rattle.tx_run.proofs.Evidence.{session_step}
+use Rattle.tx_workload.proofs.Evidence.{session_step}
 use Rattle.tx_run.proofs.job.ScriptJob.begin.Goals as goal
 
 pub report_refusal-requires-clause-says : goal.report_refusal-requires-clause-says

@@ -1,12 +1,12 @@
 use Rattle.std.proofs.Common.{map, sym, ap, subst, ◌∙◌}
 use Rattle.std.specs.Prelude.{reverse}
-use Rattle.tx_run.specs.LineNumbers.{number_of}
+use Rattle.tx_workload.specs.LineNumbers.{number_of}
 use Rattle.tx_run.specs.States.{buffer_of, going_of}
-use Rattle.tx_run.specs.declared.reply.LineAnswer.TheVariants.{Ended}
-use Rattle.tx_run.specs.Logs.{Logged}
+use Rattle.tx_workload.specs.declared.reply.LineAnswer.TheVariants.{Ended}
+use Rattle.tx_workload.specs.Logs.{Logged}
 use Rattle.tx_run.specs.Jobs.{JobGoesOn, MayAnswer, Working, with_line}
 use Rattle.tx_run.proofs.AnsweredLines.{answered}
-use Rattle.tx_run.proofs.WrittenLines.{on_ok, on_err}
+use Rattle.tx_workload.proofs.WrittenLines.{on_ok, on_err}
 use Rattle.tx_run.proofs.job.ScriptJob.conclude.Goals as goal
 
 pub returns-clause-kept : goal.returns-clause-kept

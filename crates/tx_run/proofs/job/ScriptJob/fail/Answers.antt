@@ -1,10 +1,10 @@
 use Rattle.std.proofs.Common.{◌≡◌, List, ℕ, [], map, true, refl, sym, subst}
 use Rattle.std.specs.Prelude.{reverse}
 use Rattle.tx_run.specs.Jobs.{JobGoesOn, MayAnswer, Working, with_line}
-use Rattle.tx_run.specs.LineNumbers.{number_of}
+use Rattle.tx_workload.specs.LineNumbers.{number_of}
 use Rattle.tx_run.specs.States.{buffer_of, going_of}
-use Rattle.tx_run.specs.Tells.{Owns}
-use Rattle.tx_run.proofs.Evidence.{fault_tells}
+use Rattle.tx_workload.specs.Tells.{Owns}
+use Rattle.tx_workload.proofs.Evidence.{fault_tells}
 use Rattle.tx_run.proofs.AnsweredLines.{failed, sound_failed}
 use Rattle.tx_run.proofs.LinesLeft.{owns_over}
 use Rattle.tx_run.proofs.job.ScriptJob.fail.Goals as goal

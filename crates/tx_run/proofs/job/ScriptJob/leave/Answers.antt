@@ -1,4 +1,4 @@
-use Rattle.tx_run.proofs.Evidence.{done_tells}
+use Rattle.tx_workload.proofs.Evidence.{done_tells}
 use Rattle.tx_run.proofs.job.ScriptJob.leave.Goals as goal
 
 pub report-requires-clause-tells : goal.report-requires-clause-tells

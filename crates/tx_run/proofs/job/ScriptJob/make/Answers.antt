@@ -2,8 +2,8 @@ use Rattle.std.proofs.Common.{sym, subst}
 use Rattle.tx_transaction.specs.Buffers.{Entries}
 use Rattle.tx_evidence.specs.Buffers.{AllBy}
 use Rattle.tx_run.specs.Jobs.{Working}
-use Rattle.tx_run.specs.Tells.{EnteredBy}
-use Rattle.tx_run.proofs.Evidence.{begin_says, act_says}
+use Rattle.tx_workload.specs.Tells.{EnteredBy}
+use Rattle.tx_workload.proofs.Evidence.{begin_says, act_says}
 use Rattle.tx_run.proofs.job.ScriptJob.make.Goals as goal
 
 pub begin-requires-clause-says : goal.begin-requires-clause-says

@@ -1,6 +1,6 @@
 use Rattle.std.proofs.Common.{ap}
-use Rattle.tx_run.specs.Answers.{has_fault}
-use Rattle.tx_run.specs.LineNumbers.{number_of}
+use Rattle.tx_workload.specs.Answers.{has_fault}
+use Rattle.tx_workload.specs.LineNumbers.{number_of}
 use Rattle.tx_run.proofs.LinesLeft.{owns_turned}
 use Rattle.tx_run.proofs.job.ScriptJob.new.Goals as goal
 

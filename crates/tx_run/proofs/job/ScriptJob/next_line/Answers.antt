@@ -1,7 +1,7 @@
 use Rattle.std.proofs.Common.{◌≡◌, ◌∷◌, map, false, subst}
 use Rattle.std.specs.Prelude.{reverse, IfSome}
 use Rattle.tx_run.specs.Jobs.{Working}
-use Rattle.tx_run.specs.LineNumbers.{number_of}
+use Rattle.tx_workload.specs.LineNumbers.{number_of}
 use Rattle.tx_run.specs.States.{buffer_of, going_of}
 use Rattle.tx_run.proofs.LinesLeft.{one_before, one_entered, one_own, owns_left, some_left, sound_left}
 use Rattle.tx_run.proofs.job.ScriptJob.next_line.Goals as goal

@@ -1,10 +1,10 @@
 use Rattle.std.proofs.Common.{Ok, ap, sym, subst, ◌∙◌}
 use Rattle.tx_reply.specs.declared.reply.ScriptReply.TheVariants as reply
-use Rattle.tx_run.specs.declared.reply.LineAnswer.TheVariants.{Plain}
+use Rattle.tx_workload.specs.declared.reply.LineAnswer.TheVariants.{Plain}
 use Rattle.tx_run.specs.Jobs.{Working}
-use Rattle.tx_run.specs.Logs.{answer_to}
-use Rattle.tx_run.specs.Tells.{TellsLine}
-use Rattle.tx_run.proofs.Evidence.{session_step, start_tells}
+use Rattle.tx_workload.specs.Logs.{answer_to}
+use Rattle.tx_workload.specs.Tells.{TellsLine}
+use Rattle.tx_workload.proofs.Evidence.{session_step, start_tells}
 use Rattle.tx_run.proofs.AnsweredLines.{may_heard, may_still}
 use Rattle.tx_run.proofs.job.ScriptJob.on_begun.Goals as goal
 

@@ -2,13 +2,13 @@ use Rattle.std.proofs.Common.{◌+◌, ap, sym, subst, ◌∙◌}
 use Rattle.tx_client.specs.Calls.{Seated}
 use Rattle.tx_core.specs.Histories.{Begins}
 use Rattle.tx_steps.specs.Steps.{asked}
-use Rattle.tx_run.specs.declared.reply.LineAnswer.TheVariants.{Plain}
+use Rattle.tx_workload.specs.declared.reply.LineAnswer.TheVariants.{Plain}
 use Rattle.tx_run.specs.Jobs.{Working}
-use Rattle.tx_run.specs.Logs.{answer_to}
-use Rattle.tx_run.specs.Tells.{AreEntered, EnteredBy, TellsLine}
+use Rattle.tx_workload.specs.Logs.{answer_to}
+use Rattle.tx_workload.specs.Tells.{AreEntered, EnteredBy, TellsLine}
 use Rattle.tx_evidence.specs.Buffers.{AllBy}
 use Rattle.tx_transaction.specs.Sessions.{SessionState}
-use Rattle.tx_run.proofs.Evidence.{answer_tells, line_tells_on}
+use Rattle.tx_workload.proofs.Evidence.{answer_tells, line_tells_on}
 use Rattle.tx_run.proofs.OwnLines.{later_entered}
 use Rattle.tx_run.proofs.job.ScriptJob.operate.Goals as goal
 

@@ -1,8 +1,8 @@
 use Rattle.std.proofs.Common.{List, ℕ, sym, subst}
 use Rattle.tx_steps.specs.Lines.{data_of}
 use Rattle.tx_transfer.specs.Sources.{HasLine}
-use Rattle.tx_run.proofs.Evidence.{step_made}
-use Rattle.tx_run.proofs.Sources.{pair_made}
+use Rattle.tx_workload.proofs.Evidence.{step_made}
+use Rattle.tx_workload.proofs.Sources.{pair_made}
 use Rattle.tx_run.proofs.job.ScriptJob.play.Goals as goal
 
 pub make-requires-clause-pair : goal.make-requires-clause-pair

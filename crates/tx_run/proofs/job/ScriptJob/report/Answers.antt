@@ -1,10 +1,10 @@
 use Rattle.std.proofs.Common.{map, sym, subst, ◌∙◌, Ok}
 use Rattle.std.specs.Prelude.{reverse}
-use Rattle.tx_run.specs.LineNumbers.{number_of}
+use Rattle.tx_workload.specs.LineNumbers.{number_of}
 use Rattle.tx_run.specs.States.{buffer_of, going_of}
-use Rattle.tx_run.specs.declared.reply.LineAnswer.TheVariants.{Plain}
-use Rattle.tx_run.specs.Logs.{answer_to}
-use Rattle.tx_run.specs.Tells.{TellsLine}
+use Rattle.tx_workload.specs.declared.reply.LineAnswer.TheVariants.{Plain}
+use Rattle.tx_workload.specs.Logs.{answer_to}
+use Rattle.tx_workload.specs.Tells.{TellsLine}
 use Rattle.tx_run.specs.Jobs.{JobGoesOn, MayAnswer, Working, with_line}
 use Rattle.tx_run.proofs.AnsweredLines.{answered}
 use Rattle.tx_run.proofs.job.ScriptJob.report.Goals as goal

@@ -1,4 +1,4 @@
-use Rattle.tx_run.proofs.Evidence.{refusal_tells}
+use Rattle.tx_workload.proofs.Evidence.{refusal_tells}
 use Rattle.tx_run.proofs.job.ScriptJob.report_refusal.Goals as goal
 
 pub report-requires-clause-tells : goal.report-requires-clause-tells

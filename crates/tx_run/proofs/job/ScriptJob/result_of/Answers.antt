@@ -3,7 +3,7 @@ use Rattle.std.specs.Borrow.{Bor}
 use Rattle.tx_steps.specs.declared.step.Step.{Step}
 use Rattle.tx_steps.specs.Steps.{Text, acted, asked, called, delivered}
 use Rattle.tx_transfer.specs.Replies.{said_of}
-use Rattle.tx_run.specs.Tells.{EnteredBefore, SaidTells, SaysOwn}
+use Rattle.tx_workload.specs.Tells.{EnteredBefore, SaidTells, SaysOwn}
 use Rattle.tx_run.proofs.OwnLines.{act_own, next_entered, send_own}
 use Rattle.tx_run.proofs.job.ScriptJob.result_of.Goals as goal
 

@@ -1,7 +1,7 @@
 use Rattle.std.proofs.Common.{ap, ◌∙◌, map}
 use Rattle.std.specs.Prelude.{reverse}
 use Rattle.tx_run.specs.Jobs.{Working}
-use Rattle.tx_run.specs.LineNumbers.{number_of}
+use Rattle.tx_workload.specs.LineNumbers.{number_of}
 use Rattle.tx_run.specs.States.{buffer_of, going_of}
 use Rattle.tx_run.proofs.job.ScriptJob.set_state.Goals as goal
 

@@ -1,0 +1,63 @@
+use Rattle.std.proofs.Common.{All, sym, subst, ◌∙◌, ℕ}
+use Rattle.std.proofs.lemmas.Bool.{eqb-true}
+use Rattle.tx_core.specs.Histories.{History, Begins}
+use Rattle.tx_core.specs.declared.event.Event.TheVariants.{Answered}
+use Rattle.tx_client.specs.Calls.{Records}
+use Rattle.tx_transaction.specs.Sessions.{SessionState}
+use Rattle.tx_workload.specs.Logs.{KeepsOutcome, Logged, TellsBy}
+use Rattle.tx_transfer.specs.Transfers.{IsBetween}
+use Rattle.tx_transfer.specs.Transfers.{MovesSome}
+use Rattle.tx_transfer.proofs.TransferWrites.{ends_between}
+use Rattle.tx_workload.specs.Pairs.{TellsPair}
+use Rattle.tx_workload.specs.Tells.{TellsLine}
+use Rattle.tx_workload.proofs.SessionAnswers.{can_tell}
+use Rattle.tx_workload.proofs.log.RunLog.finish.Goals as goal
+
+pub learn_outcome-requires-clause-tell : goal.learn_outcome-requires-clause-tell
+learn_outcome-requires-clause-tell g c =
+    let bounds = g.J.JournalId.bounds in
+    let k = c.learn_told.new.self.seat in
+    let log : Logged = record {
+      seat = c.self.inside.seat;
+      told = c.copy.new.told;
+      replies =
+          c.self.inside.replies.items;
+      lost = c.self.inside.lost;
+    } in
+    let knew = subst (λ (h : History). Begins h k.events) (c.copy.ensures.copy
+    ∙ sym c.copy.ensures.same) c.learn_told.ensures.after_answer.knows in
+    let records = subst (λ (t : ℕ). Records bounds k (Answered t c.in-Ok.outcome) c.in-Ok.seat)
+    (sym c.start-start.ensures) c.in-Ok.ensures.ended.1 in
+    let same = sym c.number.ensures.number ∙ eqb-true _ _ (sym c.if-eq.ensures) in
+    let state = c.learn_told.new.self.state in
+    let moves = subst (λ (s : SessionState). MovesSome c.args.keys s) (sym c.learn_told.ensures.state)
+    c.requires.moves in
+    let between = subst (λ (t : ℕ). IsBetween k.events t c.in-Ok.outcome c.args.keys) (sym c.start-start.ensures)
+    (ends_between bounds k.events state c.in-Ok.outcome c.args.keys c.show.ensures.run c.show.ensures.stands
+    c.in-Ok.ensures.ended.2 moves) in
+    let tells = subst (λ (h : History). TellsBy h c.self.inside.seat c.self.inside.replies.items)
+    (sym c.copy.ensures.same) c.self.invariant.0 in
+    can_tell bounds log k c.start-start.result c.in-Ok.outcome c.args.keys c.in-Ok.seat knew records same between tells
+
+pub returns-then-eq-clause-kept : goal.returns-then-eq-clause-kept
+returns-then-eq-clause-kept g c =
+    subst (λ (l : Logged). KeepsOutcome l c.args.number c.args.keys c.learn_outcome.new.self) c.self.view_is
+    (c.start-start.result, c.in-Ok.outcome, c.learn_outcome.ensures.kept)
+
+pub invariant_of-self : goal.invariant_of-self
+invariant_of-self g c =
+    let xs = c.self.inside.replies.items in
+    subst (λ (h : History). TellsBy h c.self.inside.seat xs × All (TellsPair g.L.Source.text) xs
+    × All (TellsLine g.L.Source.text g.J.JournalId.bounds h) xs) (sym c.copy.ensures.same) c.self.invariant
+
+pub invariant_of-self-in-Ok : goal.invariant_of-self-in-Ok
+invariant_of-self-in-Ok g c =
+    let xs = c.self.inside.replies.items in
+    subst (λ (h : History). TellsBy h c.self.inside.seat xs × All (TellsPair g.L.Source.text) xs
+    × All (TellsLine g.L.Source.text g.J.JournalId.bounds h) xs) (sym c.copy.ensures.same) c.self.invariant
+
+pub invariant_of-self-in-Err : goal.invariant_of-self-in-Err
+invariant_of-self-in-Err g c =
+    let xs = c.self.inside.replies.items in
+    subst (λ (h : History). TellsBy h c.self.inside.seat xs × All (TellsPair g.L.Source.text) xs
+    × All (TellsLine g.L.Source.text g.J.JournalId.bounds h) xs) (sym c.copy.ensures.same) c.self.invariant

@@ -1,0 +1,15 @@
+pub mod Answers
+pub mod Faults
+pub mod LineNumbers
+pub mod Lines
+pub mod Logs
+pub mod Outcomes
+pub mod Pairs
+pub mod Readers
+pub mod ScriptLines
+pub mod Replies
+pub mod Scripts
+pub mod Steps
+pub mod Tells
+pub mod Texts
+pub mod Totals
