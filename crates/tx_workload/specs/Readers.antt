@@ -1,5 +1,5 @@
--- What a reader of a script has kept of the lines that it has read. Only this crate's own clauses
--- cite it.
+-- What a reader of a script has kept of the lines that it has read. But for `HasSession`, only this
+-- crate's own clauses cite it.
 use Rattle.std.specs.Prelude.{◌≡◌, ℕ, ◌-◌, List, map, take, false, slice_get, bytes_eq}
 use Rattle.std.specs.Prelude.{Option, Some, None, option_and_then, IfSome}
 use Rattle.std.specs.List.{list_any}

@@ -73,7 +73,7 @@ pub record AllTell (source : Option (List ℕ)) (seen : Seen) (replies : List Li
   pub tells : All (TellsLine source seen.bounds seen.events) replies
   pub regions : IfSome source (λ text. seen.bounds ≡ bounds_of (lines_of text))
 
--- ---- within the crate
+-- ---- of the jobs that play it, for the clauses of tx_run
 
 -- line 1 says no step where it says the keys between the regions
 abbrev pub OpensWith : Option (List ℕ) → List Key → Type 0
