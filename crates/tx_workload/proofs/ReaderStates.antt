@@ -13,7 +13,7 @@ use Rattle.std.proofs.lemmas.Slice.Eq.{bytes_eq-Decides}
 use Rattle.tx_steps.specs.declared.program.Program.TheVariants.{Run}
 use Rattle.tx_steps.specs.declared.step.Step.{Step}
 use Rattle.tx_steps.specs.Steps.{Text}
-use Rattle.tx_workload.specs.ScriptLines.{KeepsText, firsts_of, is_named, is_seed, lines_of_session, name_in, opening_of, seeds_of, session_names, session_of, sessions_of, step_for, step_of, with_name}
+use Rattle.tx_workload.specs.ScriptLines.{KeepsText, is_named, is_seed, lines_of_session, name_in, seeds_of, session_names, session_of, sessions_of, step_for, step_of, with_name}
 use Rattle.tx_text.specs.Lines.{lines_of}
 use Rattle.tx_transfer.specs.Sources.{HasLine}
 use Rattle.tx_types.specs.declared.key.Key.{Key}
@@ -23,8 +23,6 @@ use Rattle.tx_steps.specs.Lines.{data_said, step_in, bounds_in}
 use Rattle.tx_evidence.specs.Lines.{bounds_by, bounds_at, bounds_of}
 use Rattle.tx_workload.specs.Faults.{opens}
 use Rattle.tx_workload.specs.Readers.{HasSession, Sorts, SortsBefore}
-use Rattle.tx_core.specs.Histories.{History}
-use Rattle.tx_workload.specs.declared.reply.LineReply.{LineReply}
 use Rattle.tx_workload.proofs.SessionNames.{session_names-more, lines_more, seeds_more, session_names-distinct, no_lines, map_same, joined, begun, more_number, with_number}
 use Rattle.tx_workload.proofs.Sources.{Stands}
 
