@@ -1,6 +1,7 @@
 //! Names that are each given once, by an index that is unique: two clients sign users up on two
 //! threads, both under the same names. Whoever comes first has the name, and only that user a row.
 use std::sync::Wait;
+use std::thread::Threads;
 use tx_kv::{
     Client, Failure, JournalId, Key, NotUpdated, Program, Stop, Tx, Value, Work, with_store,
 };
@@ -102,7 +103,10 @@ impl<R: Wait> Program<R> for Office {
 }
 
 /// Opens a store of three regions, and has two clients sign users up in it.
-pub fn show(rt: &HostRuntime) -> anyhow::Result<()> {
+pub fn show<R>(rt: &R) -> anyhow::Result<()>
+where
+    R: Print + AllocGlobal + Threads + Wait + Sync,
+{
     let (signed, taken, right) = with_store(rt, rt.alloc(), &[b"n\x05", b"p"], 2, Office)?;
     println!(rt; "{signed} signed up, {taken} times a name was taken, all is right: {right}")?;
     Ok(())

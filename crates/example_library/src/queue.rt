@@ -1,6 +1,7 @@
 //! A queue of jobs in the store, and two clients that take from it on two threads: each takes the
 //! least job that is there, until none is left. No job is taken twice.
 use std::sync::Wait;
+use std::thread::Threads;
 use tx_kv::{Client, Failure, JournalId, Key, Program, Stop, Tx, Value, Work, with_store};
 
 // How many jobs there are.
@@ -95,7 +96,10 @@ impl<R: Wait> Program<R> for Queue {
 }
 
 /// Opens a store of two regions, and has two clients empty a queue in it.
-pub fn show(rt: &HostRuntime) -> anyhow::Result<()> {
+pub fn show<R>(rt: &R) -> anyhow::Result<()>
+where
+    R: Print + AllocGlobal + Threads + Wait + Sync,
+{
     let times = with_store(rt, rt.alloc(), &[b"j\x08"], 2, Queue)?;
     let once = times.is_some_and(|times| times.iter().all(|count: &u8| *count == 1));
     println!(rt; "{JOBS} jobs, each taken once: {once}")?;

@@ -42,7 +42,7 @@ fn seated<J: JournalId, R: Print + Wait>(
 }
 
 /// Prints the table.
-pub fn show(rt: &HostRuntime) -> Result<()> {
+pub fn show<R: Print + AllocGlobal + Wait>(rt: &R) -> Result<()> {
     let alloc = rt.alloc();
     head(rt)?;
     let opened = journal(alloc)?;

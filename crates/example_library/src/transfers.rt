@@ -1,6 +1,7 @@
 //! Money is moved between accounts by two clients on two threads. Whatever order the transfers come
 //! in, what the accounts have together stays the same.
 use std::sync::Wait;
+use std::thread::Threads;
 use tx_kv::{Client, Failure, JournalId, Key, Program, Stop, Tx, Value, Work, with_store};
 
 // The key of an account: two lie in each of the regions.
@@ -82,7 +83,10 @@ impl<R: Wait> Program<R> for Bank {
 }
 
 /// Opens a store of two regions, and has two clients move money in it.
-pub fn show(rt: &HostRuntime) -> anyhow::Result<()> {
+pub fn show<R>(rt: &R) -> anyhow::Result<()>
+where
+    R: Print + AllocGlobal + Threads + Wait + Sync,
+{
     let total = with_store(rt, rt.alloc(), &[b"m"], 2, Bank)?.unwrap_or(0);
     Ok(println!(rt; "4 accounts, {total} in all")?)
 }
