@@ -2,14 +2,14 @@
 //! after each byte.
 ghost use Rattle.std.specs.Prelude.{Some};
 
-use crate::script_tests::{simulate, simulate_checked};
-use crate::tests::{Drip, torn_reader};
+use crate::streams::{Drip, torn_reader};
 use std::alloc::Global;
 use std::io;
 use std::io::{BufRead, ErrorKind, Write};
 use std::test::Fail;
 use tx_check::check;
-use tx_script::{Broken, End};
+use tx_flat::FlatCells;
+use tx_script::{Broken, End, Plain, simulate, simulate_checked};
 
 static SCRIPT: &str = r#"["begin","A"]
 ["put","A","a","x"]
@@ -96,8 +96,12 @@ impl Command {
         writer: &mut W,
     ) -> Result<End, Broken> {
         match self {
-            Command::Simulate => simulate(alloc, reader, writer),
-            Command::SimulateChecked => simulate_checked(alloc, reader, writer),
+            Command::Simulate => {
+                simulate::<FlatCells, _, _, _>(alloc, &Plain, reader, writer, &mut None)
+            }
+            Command::SimulateChecked => {
+                simulate_checked::<FlatCells, _, _, _>(alloc, &Plain, reader, writer, &mut None)
+            }
             Command::Check => check(alloc, reader, writer),
         }
     }

@@ -1,5 +1,5 @@
-//! Scripts and traces with what they write, over readers and writers that may fail; and scripts by
-//! chance, a shape each.
+//! Scripts and traces over readers and writers that fail, lines at their limits, and scripts by
+//! chance, a shape each. What each script and trace writes else is data (`crates/examples/data`).
 #![tactic(auto)]
 
 #[cfg(test)]
@@ -9,8 +9,4 @@ mod generate_tests;
 #[cfg(test)]
 mod limits_tests;
 #[cfg(test)]
-mod reason_tests;
-#[cfg(test)]
-mod script_tests;
-#[cfg(test)]
-mod tests;
+mod streams;
