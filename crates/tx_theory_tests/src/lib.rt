@@ -1,11 +1,8 @@
-//! Values and refusals, runs of the machine, the steps of a run, and journals that threads share.
+//! Values and refusals, and journals that threads share. Runs of the machine and the steps of a run
+//! are data (`crates/examples/data`).
 #![tactic(auto)]
 
 #[cfg(test)]
 mod journal;
-#[cfg(test)]
-mod machine;
-#[cfg(test)]
-mod trace;
 #[cfg(test)]
 mod types;
