@@ -6,7 +6,7 @@ mod resolver;
 mod short_seats;
 mod unsent;
 
-use crate::harness::{Step, played};
+use crate::harness::{Step, run};
 use std::alloc::Global;
 use std::sync::Wait;
 use std::test::Fail;
@@ -14,27 +14,29 @@ use std::test::Fail;
 /// A name, and the steps.
 pub type Scenario = (&'static str, &'static [Step]);
 
+const ALL: &[&[Scenario]] = &[
+    learnt::SCENARIOS,
+    refused::SCENARIOS,
+    resolver::SCENARIOS,
+    short_seats::SCENARIOS,
+    unsent::SCENARIOS,
+];
+
 // The name of the first of these that does not come out as it says.
 fn first_wrong<R: Wait>(rt: &R, alloc: Global, scenarios: &[Scenario]) -> Option<&'static str> {
     for (name, steps) in scenarios {
-        if played(rt, alloc, steps) != Some(steps.len()) {
-            return Some(*name);
+        match run(rt, alloc, steps) {
+            Some((right, _)) if right == steps.len() => {}
+            _ => return Some(*name),
         }
     }
     None
 }
 
-// And of all.
-fn first_wrong_of_all<R: Wait>(rt: &R, alloc: Global) -> Option<&'static str> {
-    first_wrong(rt, alloc, learnt::SCENARIOS)
-        .or(first_wrong(rt, alloc, refused::SCENARIOS))
-        .or(first_wrong(rt, alloc, resolver::SCENARIOS))
-        .or(first_wrong(rt, alloc, short_seats::SCENARIOS))
-        .or(first_wrong(rt, alloc, unsent::SCENARIOS))
-}
-
 #[test]
 fn steps_come_out_as_they_say(rt: HostRuntime) -> Result<(), Fail> {
-    assert_eq!(rt; first_wrong_of_all(&rt, rt.alloc()), None);
+    for scenarios in ALL {
+        assert_eq!(rt; first_wrong(&rt, rt.alloc(), scenarios), None);
+    }
     Ok(())
 }
