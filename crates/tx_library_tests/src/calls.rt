@@ -11,23 +11,25 @@ use tx_types::{Fault, Key, Mode, Ts, Value};
 
 /// What is done, with keys and values.
 #[derive(Clone, Copy)]
-pub enum Op {
+pub enum Op<'a> {
     Begin,
     /// Begins on a seat that may draw so few ticks, 0, 1 or 2.
     BeginShort(u32),
-    Put(&'static [u8], &'static [u8]),
-    Insert(&'static [u8], &'static [u8]),
-    Delete(&'static [u8]),
-    Lock(&'static [u8]),
+    Put(&'a [u8], &'a [u8]),
+    Insert(&'a [u8], &'a [u8]),
+    Delete(&'a [u8]),
+    Lock(&'a [u8]),
     /// In this mode, where no async lock may promise more than this.
     Declare(Mode, Option<u64>),
+    /// In two phases, with locks that live so many ticks.
+    DeclareFor(u32),
     Prewrite,
     Draw,
     Commit,
     Abort,
     HeartBeat(u32),
-    Get(&'static [u8]),
-    Scan(&'static [u8], &'static [u8], u32),
+    Get(&'a [u8]),
+    Scan(&'a [u8], &'a [u8], u32),
     /// The resolver finds, at this time, what became of the transaction whose lock it met.
     Resolve(u64),
     /// Learns the fate of the other session's transaction.
@@ -39,7 +41,7 @@ pub enum Op {
     Raise(u64),
     /// A transaction of no session begins, declares these two keys in two phases, and prewrites
     /// the second alone.
-    Orphan(&'static [u8], &'static [u8]),
+    Orphan(&'a [u8], &'a [u8]),
     /// So many requests are delivered plainly, before the one whose delivery the next step says.
     Skip(u32),
 }
@@ -71,74 +73,36 @@ pub fn pair_of(alloc: Global, key: &[u8], value: &[u8]) -> Result<(Key, Value), 
     Ok((key, value))
 }
 
-/// Enters a put of this value into the buffer.
-pub fn put<J: JournalId>(
-    alloc: Global,
-    session: &mut Session<J>,
-    key: &[u8],
-    value: &[u8],
-) -> Result<(), Fault>
-    requires { is_declared session.old.state ≡ false }
-{
-    let (key, value) = pair_of(alloc, key, value)?;
-    session.put(key, value)
-}
-
-fn insert<J: JournalId>(
-    alloc: Global,
-    session: &mut Session<J>,
-    key: &[u8],
-    value: &[u8],
-) -> Result<(), Fault>
-    requires { is_declared session.old.state ≡ false }
-{
-    let (key, value) = pair_of(alloc, key, value)?;
-    session.insert(key, value)
-}
-
-fn delete<J: JournalId>(alloc: Global, session: &mut Session<J>, key: &[u8]) -> Result<(), Fault>
-    requires { is_declared session.old.state ≡ false }
-{
-    session.delete(Key::new(alloc, key)?)
-}
-
-fn lock<J: JournalId>(alloc: Global, session: &mut Session<J>, key: &[u8]) -> Result<(), Fault>
-    requires { is_declared session.old.state ≡ false }
-{
-    session.lock(Key::new(alloc, key)?)
-}
-
-fn declare<J: JournalId>(
-    session: &mut Session<J>,
-    mode: Mode,
-    most: Option<u64>,
-) -> Result<(), Fault>
-    requires { is_declared session.old.state ≡ false }
-{
-    session.declare(Terms {
+fn terms(mode: Mode, ttl: u32, most: Option<u64>) -> Terms {
+    Terms {
         mode,
-        ttl: 10,
+        ttl,
         max_commit: most.map(Ts::new),
-    })
+    }
 }
 
-// What a session does to its own buffer, before it declares.
-fn prepare<J: JournalId>(alloc: Global, session: &mut Session<J>, op: Op) -> Came {
-    if session.is_declared() {
-        return Came::Order;
-    }
+// Changes the buffer, or fixes the write set. Any other call changes nothing.
+fn prepare<J: JournalId>(alloc: Global, session: &mut Session<J>, op: Op<'_>) -> Result<(), Fault>
+    requires { is_declared session.old.state ≡ false }
+{
     match op {
-        Op::Put(key, value) => Came::Changed(put(alloc, session, key, value)),
-        Op::Insert(key, value) => Came::Changed(insert(alloc, session, key, value)),
-        Op::Delete(key) => Came::Changed(delete(alloc, session, key)),
-        Op::Lock(key) => Came::Changed(lock(alloc, session, key)),
-        Op::Declare(mode, most) => Came::Changed(declare(session, mode, most)),
-        _ => Came::Order,
+        Op::Put(key, value) => {
+            let (key, value) = pair_of(alloc, key, value)?;
+            session.put(key, value)
+        }
+        Op::Insert(key, value) => {
+            let (key, value) = pair_of(alloc, key, value)?;
+            session.insert(key, value)
+        }
+        Op::Delete(key) => session.delete(Key::new(alloc, key)?),
+        Op::Lock(key) => session.lock(Key::new(alloc, key)?),
+        Op::Declare(mode, most) => session.declare(terms(mode, 10, most)),
+        Op::DeclareFor(ttl) => session.declare(terms(Mode::TwoPhase, ttl, None)),
+        _ => Ok(()),
     }
 }
 
-/// What the key of these bytes has.
-pub fn get<J: JournalId, S: Sender<Request<J>, Reply<J>>>(
+fn get<J: JournalId, S: Sender<Request<J>, Reply<J>>>(
     alloc: Global,
     session: &mut Session<J>,
     key: &[u8],
@@ -177,7 +141,7 @@ fn scan<J: JournalId, S: Sender<Request<J>, Reply<J>>>(
 pub fn perform<J: JournalId, S: Sender<Request<J>, Reply<J>>>(
     alloc: Global,
     session: &mut Session<J>,
-    op: Op,
+    op: Op<'_>,
     sender: &mut S,
 ) -> Came
     requires way { IsSender J.bounds S.fits S.sends S.keys_between }
@@ -196,6 +160,13 @@ pub fn perform<J: JournalId, S: Sender<Request<J>, Reply<J>>>(
         Op::Scan(from, to, limit) => {
             Came::Answered(scan(alloc, session, from, to, limit, sender).map(Some))
         }
-        _ => prepare(alloc, session, op),
+        Op::Put(..)
+        | Op::Insert(..)
+        | Op::Delete(_)
+        | Op::Lock(_)
+        | Op::Declare(..)
+        | Op::DeclareFor(_)
+            if !session.is_declared() => { Came::Changed(prepare(alloc, session, op)) }
+        _ => Came::Order,
     }
 }

@@ -30,10 +30,13 @@ pub enum Who {
 
 /// A step: who acts, what it does, how its request is delivered, and the word and the number that
 /// come of it.
-pub type Step = (Who, Op, Delivery, &'static str, u64);
+pub type Step = (Who, Op<'static>, Delivery, &'static str, u64);
 
-// A seat with so few ticks left.
-fn shortened<J: JournalId>(mut seat: Seat<J>, left: u32) -> Seat<J> {
+// A seat with so few ticks left, where that is said.
+fn shortened<J: JournalId>(mut seat: Seat<J>, left: Option<u32>) -> Seat<J> {
+    let Some(left) = left else {
+        return seat;
+    };
     let _ = seat.draw(u32::MAX - 1);
     for _ in left..2 {
         let _ = seat.draw(1);
@@ -41,13 +44,9 @@ fn shortened<J: JournalId>(mut seat: Seat<J>, left: u32) -> Seat<J> {
     seat
 }
 
-// How many steps came out as they say, up to the first that did not, and whether no session was
-// refused memory of its own once all that a step sends was answered.
-#[derive(Clone, Copy)]
-struct Tally {
-    right: usize,
-    refuses_first: bool,
-}
+/// How many steps came out as they say, up to the first that did not, and whether no session was
+/// refused memory of its own once all that a step sends was answered.
+pub type Tally = (usize, bool);
 
 /// How requests reach the regions, the seats that are free, the seat of the resolver and of the
 /// collector, and the sessions.
@@ -78,8 +77,12 @@ impl<'a, J: JournalId, F: Families + Drop, R: Wait> Harness<'a, J, F, R> {
         }
     }
 
-    fn begin_on(&mut self, who: Who, seat: Seat<J>) -> Short {
-        match Session::begin(self.alloc, seat) {
+    // Begins on the next seat, which may draw so few ticks where that is said.
+    fn begin(&mut self, who: Who, left: Option<u32>) -> Short {
+        let Some(seat) = self.seats.pop() else {
+            return ORDER;
+        };
+        match Session::begin(self.alloc, shortened(seat, left)) {
             Ok(session) => {
                 let start = session.start().get();
                 self.keep(who, Some(session));
@@ -89,20 +92,6 @@ impl<'a, J: JournalId, F: Families + Drop, R: Wait> Harness<'a, J, F, R> {
                 drop(seat);
                 ("E11", 0)
             }
-        }
-    }
-
-    fn begin(&mut self, who: Who) -> Short {
-        match self.seats.pop() {
-            Some(seat) => self.begin_on(who, seat),
-            None => ORDER,
-        }
-    }
-
-    fn begin_short(&mut self, who: Who, left: u32) -> Short {
-        match self.seats.pop() {
-            Some(seat) => self.begin_on(who, shortened(seat, left)),
-            None => ORDER,
         }
     }
 
@@ -152,11 +141,7 @@ impl<'a, J: JournalId, F: Families + Drop, R: Wait> Harness<'a, J, F, R> {
         short
     }
 
-    fn collect(&mut self, safe: u64) -> Short {
-        by_collection(self.sender.collect(&mut self.resolver, Ts::new(safe)))
-    }
-
-    fn perform(&mut self, who: Who, op: Op) -> Short {
+    fn perform(&mut self, who: Who, op: Op<'static>) -> Short {
         let Some(mut session) = self.take(who) else {
             return ORDER;
         };
@@ -167,14 +152,16 @@ impl<'a, J: JournalId, F: Families + Drop, R: Wait> Harness<'a, J, F, R> {
     }
 
     // What comes of a step.
-    fn step(&mut self, who: Who, op: Op, delivery: Delivery) -> Short {
+    fn step(&mut self, who: Who, op: Op<'static>, delivery: Delivery) -> Short {
         self.sender.set_delivery(delivery);
         match op {
-            Op::Begin => self.begin(who),
-            Op::BeginShort(left) => self.begin_short(who, left),
+            Op::Begin => self.begin(who, None),
+            Op::BeginShort(left) => self.begin(who, Some(left)),
             Op::Learn => self.learn(who),
             Op::Resolve(now) => self.resolve(who, now),
-            Op::Collect(safe) => self.collect(safe),
+            Op::Collect(safe) => {
+                by_collection(self.sender.collect(&mut self.resolver, Ts::new(safe)))
+            }
             Op::Orphan(first, second) => self.orphan(first, second),
             Op::Skip(count) => {
                 self.sender.skip(count);
@@ -186,22 +173,20 @@ impl<'a, J: JournalId, F: Families + Drop, R: Wait> Harness<'a, J, F, R> {
     }
 
     fn play(&mut self, steps: &[Step]) -> Tally {
-        let mut played = Tally {
-            right: 0,
-            refuses_first: true,
-        };
+        let mut right: usize = 0;
+        let mut refuses_first = true;
         let mut goes_on = true;
         for (who, op, delivery, word, number) in steps {
             let short = self.step(*who, *op, *delivery);
             goes_on = goes_on && short.0 == *word && short.1 == *number;
             if goes_on {
-                played.right = played.right.wrapping_add(1);
+                right = right.wrapping_add(1);
             }
             if short.0 == "E12" && self.sender.is_answered(most(*op)) {
-                played.refuses_first = false;
+                refuses_first = false;
             }
         }
-        played
+        (right, refuses_first)
     }
 }
 
@@ -211,7 +196,7 @@ fn crosses(from: &[u8], to: &[u8], bound: &[u8]) -> bool {
 }
 
 // How many requests a session sends at most: for a scan one to each region of its range.
-fn most(op: Op) -> u32 {
+fn most(op: Op<'static>) -> u32 {
     match op {
         Op::Scan(from, to, _) => match (crosses(from, to, b"4"), crosses(from, to, b"7")) {
             (true, true) => 3,
@@ -222,32 +207,22 @@ fn most(op: Op) -> u32 {
     }
 }
 
-// A harness over a store, with these seats.
-fn harness_over<'a, J: JournalId, F: Families + Drop, R: Wait>(
-    rt: &'a R,
+fn play_over<J: JournalId, F: Families + Drop, R: Wait>(
+    rt: &R,
     alloc: Global,
-    store: &'a Store<J, F>,
+    store: &Store<J, F>,
     mut seats: Vec<Seat<J>>,
-) -> Option<Harness<'a, J, F, R>> {
+    steps: &[Step],
+) -> Option<Tally> {
     let (resolver, seat) = pair(&mut seats)?;
-    Some(Harness {
+    let mut harness = Harness {
         alloc,
         sender: Faulty::new(Wire::new(rt, store), seat),
         seats,
         resolver,
         a: None,
         b: None,
-    })
-}
-
-fn play_over<J: JournalId, F: Families + Drop, R: Wait>(
-    rt: &R,
-    alloc: Global,
-    store: &Store<J, F>,
-    seats: Vec<Seat<J>>,
-    steps: &[Step],
-) -> Option<Tally> {
-    let mut harness = harness_over(rt, alloc, store, seats)?;
+    };
     let played = harness.play(steps);
     drop(harness);
     Some(played)
@@ -282,19 +257,9 @@ fn bounds(alloc: Global) -> Option<Vec<Key>>
     Some(keys)
 }
 
-fn run<R: Wait>(rt: &R, alloc: Global, steps: &[Step]) -> Option<Tally> {
+/// What comes of the steps. None where memory was refused before the first.
+pub fn run<R: Wait>(rt: &R, alloc: Global, steps: &[Step]) -> Option<Tally> {
     let bounds = bounds(alloc)?;
     let opened = Opened::new(alloc, bounds, 6).ok()?;
     play::<Brand, NestedCells, R>(rt, alloc, opened, steps)
-}
-
-/// How many steps came out as they say, up to the first that did not.
-pub fn played<R: Wait>(rt: &R, alloc: Global, steps: &[Step]) -> Option<usize> {
-    Some(run(rt, alloc, steps)?.right)
-}
-
-/// Whether no step of these, however each comes out, says that memory was refused once all that it
-/// sends was answered. None where memory was refused before the first.
-pub fn refuses_first<R: Wait>(rt: &R, alloc: Global, steps: &[Step]) -> Option<bool> {
-    Some(run(rt, alloc, steps)?.refuses_first)
 }

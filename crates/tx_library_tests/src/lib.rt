@@ -1,12 +1,13 @@
-//! What stands on regions: the rows of the case tables over records, each kind of families, and a
-//! region that answers a session; requests that are planned while others are taken; stores that
-//! threads share; updates that end well, are tried again or stop; and scenarios of sessions, a
-//! resolver and a collector that scripts have no words for. All else of sessions are rows of
-//! `crates/examples/data/scripts.rows`.
+//! What stands on regions: the rows of the case tables over records, each kind of families;
+//! requests that are planned while others are taken; stores that threads share; updates that end
+//! well, are tried again or stop; and scenarios of sessions, a resolver and a collector that
+//! scripts have no words for. All else of sessions are rows of `crates/examples/data/scripts.rows`.
 #![tactic(auto)]
 
 #[cfg(test)]
 mod calls;
+#[cfg(test)]
+mod clients;
 #[cfg(test)]
 mod harness;
 #[cfg(test)]
@@ -15,8 +16,6 @@ mod orphan;
 mod others;
 #[cfg(test)]
 mod planning_tests;
-#[cfg(test)]
-mod region_tests;
 #[cfg(test)]
 mod scenarios;
 #[cfg(test)]

@@ -8,8 +8,8 @@ ghost use Rattle.tx_journal.specs.Senders.{IsSender};
 ghost use Rattle.tx_client.specs.Calls.{Records};
 ghost use Rattle.tx_library_tests.specs.Orphan.{both_of, second_of};
 
-use crate::calls::keys_of;
-use crate::words::{Short, by_response};
+use crate::calls::{Came, keys_of};
+use crate::words::{Short, by_call};
 use std::alloc::Global;
 use tx_client::ask;
 use tx_core::{Body, Boxed, Declaration, Event, Prewrite};
@@ -95,7 +95,7 @@ fn orphan<J: JournalId, S: Sender<Request<J>, Reply<J>>>(
     };
     add(seat, Event::Declared(declaration));
     match second_of(alloc, start, first, second) {
-        Some(body) => by_response(ask(seat, body, sender)),
+        Some(body) => by_call(Came::Answered(ask(seat, body, sender).map(Some))),
         None => ("E12", 0),
     }
 }

@@ -12,15 +12,6 @@ pub fn met_by<J: JournalId>(session: &mut Session<J>) -> Option<Met<J>> {
     session.met().ok()?
 }
 
-// A session learns what became of a transaction.
-fn learnt<J: JournalId>(session: &mut Session<J>, resolved: Resolved<J>) -> Short {
-    let short = by_status(resolved.status());
-    match session.learn(resolved) {
-        Ok(()) => short,
-        Err(fault) => by_fault(fault),
-    }
-}
-
 /// The resolver finds, at this time, what became of the transaction whose lock a session met, and
 /// the session learns it.
 pub fn resolve<J: JournalId, S: Sender<Request<J>, Reply<J>>>(
@@ -36,7 +27,11 @@ pub fn resolve<J: JournalId, S: Sender<Request<J>, Reply<J>>>(
     };
     let now = Ts::new(now);
     let resolved = resolve_met(resolver, met, session.start(), now, sender);
-    learnt(session, resolved)
+    let short = by_status(resolved.status());
+    match session.learn(resolved) {
+        Ok(()) => short,
+        Err(fault) => by_fault(fault),
+    }
 }
 
 // That a transaction is decided so.

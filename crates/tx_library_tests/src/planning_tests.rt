@@ -5,12 +5,9 @@ mod scenarios;
 mod sessions;
 
 use crate::planning_tests::refusals::Failing;
-use crate::planning_tests::scenarios::{
-    LOCKS, ONE_PUT, REFUSED_BESIDE, REFUSED_CHANGE, REFUSED_COPY, REFUSED_INFO, SCENARIOS,
-    Scenario, TWO_KEYS, TWO_PUTS,
-};
+use crate::planning_tests::scenarios::{REFUSALS, Refusal, SCENARIOS, Scenario};
 use crate::planning_tests::sessions::{Step, played};
-use crate::table_tests::shown::{NOTHING, Short, is};
+use crate::table_tests::shown::{Short, is};
 use std::alloc::Global;
 use std::marker::Brand;
 use std::sync::Arc;
@@ -26,7 +23,7 @@ use tx_nested::NestedCells;
 fn holds_over<F: Families + Drop, M: Makes<F>>(
     alloc: Global,
     make: &M,
-    steps: &[Step],
+    steps: (&[Step], &[Step]),
     between: Short,
     (stales, refused): (u32, u32),
 ) -> bool {
@@ -41,70 +38,48 @@ fn holds_over<F: Families + Drop, M: Makes<F>>(
     }
 }
 
-fn joined(alloc: Global, first: &[Step], then: &[Step]) -> Option<Vec<Step>> {
-    let mut all = Vec::new(alloc);
-    for one in first {
-        all.push(*one).ok()?;
-    }
-    for one in then {
-        all.push(*one).ok()?;
-    }
-    Some(all)
-}
-
-fn holds(alloc: Global, scenario: &Scenario) -> bool {
-    let Some(steps) = joined(alloc, scenario.0, scenario.1) else {
-        return false;
-    };
-    let counts = (scenario.3, 0);
-    holds_over::<NestedCells, Plain>(alloc, &Plain, steps.as_slice(), scenario.2, counts)
-        && holds_over::<FlatCells, Plain>(alloc, &Plain, steps.as_slice(), scenario.2, counts)
-}
-
-// The number of the first scenario that is not so, and one more than the last where all are.
-fn first_wrong(alloc: Global) -> usize {
-    match SCENARIOS.iter().position(|one| !holds(alloc, one)) {
-        Some(place) => place,
-        None => SCENARIOS.len(),
-    }
+fn holds<F: Fresh>(alloc: Global, scenario: &Scenario) -> bool {
+    let (first, then, between, stales) = *scenario;
+    holds_over::<F, Plain>(alloc, &Plain, (first, then), between, (stales, 0))
 }
 
 #[test]
 fn plans_are_applied_where_they_are_right(rt: HostRuntime) -> Result<(), Fail> {
-    assert_eq!(rt; first_wrong(rt.alloc()), SCENARIOS.len());
+    for (place, scenario) in SCENARIOS.iter().enumerate() {
+        assert!(rt;
+            holds::<NestedCells>(rt.alloc(), scenario),
+            "scenario {place}"
+        );
+        assert!(rt;
+            holds::<FlatCells>(rt.alloc(), scenario),
+            "scenario {place}"
+        );
+    }
     Ok(())
 }
 
 // Whether the steps are heard so where the Nth call of the families is refused memory.
-fn fails_well<F: Fresh>(
-    alloc: Global,
-    number: u64,
-    (first, then): (&[Step], &[Step]),
-    between: Short,
-    refused: u32,
-) -> bool {
-    let Some(steps) = joined(alloc, first, then) else {
-        return false;
-    };
+fn fails_well<F: Fresh>(alloc: Global, refusal: &Refusal) -> bool {
+    let (number, first, then, between, refused) = *refusal;
     let Ok(failing) = Arc::new(alloc, Failing::new(number)) else {
         return false;
     };
     let counts = (0, refused);
-    holds_over::<Watched<F, Failing>, _>(alloc, &failing, steps.as_slice(), between, counts)
+    holds_over::<Watched<F, Failing>, _>(alloc, &failing, (first, then), between, counts)
 }
 
-// Whether each refusal of memory leaves all as it was. A request looks at its key when it is
-// copied, and is carried out by a second call of the families.
-fn refusals_leave_all<F: Fresh>(alloc: Global) -> bool {
-    fails_well::<F>(alloc, 1, (ONE_PUT, REFUSED_COPY), NOTHING, 1)
-        && fails_well::<F>(alloc, 2, (ONE_PUT, REFUSED_CHANGE), NOTHING, 0)
-        && fails_well::<F>(alloc, 4, (TWO_KEYS, REFUSED_BESIDE), LOCKS, 0)
-        && fails_well::<F>(alloc, 4, (TWO_PUTS, REFUSED_INFO), NOTHING, 0)
-}
-
+// Each refusal of memory leaves all as it was.
 #[test]
 fn refused_plans_leave_all(rt: HostRuntime) -> Result<(), Fail> {
-    assert!(rt; refusals_leave_all::<NestedCells>(rt.alloc()));
-    assert!(rt; refusals_leave_all::<FlatCells>(rt.alloc()));
+    for (place, refusal) in REFUSALS.iter().enumerate() {
+        assert!(rt;
+            fails_well::<NestedCells>(rt.alloc(), refusal),
+            "refusal {place}"
+        );
+        assert!(rt;
+            fails_well::<FlatCells>(rt.alloc(), refusal),
+            "refusal {place}"
+        );
+    }
     Ok(())
 }

@@ -11,9 +11,10 @@ pub mod rows;
 mod settlement;
 pub mod shown;
 mod states;
-mod told;
 
 use crate::table_tests::rows::{RegionRow, Row, first_wrong, first_wrong_in_region};
+use tx_flat::FlatCells;
+use tx_nested::NestedCells;
 
 // The tables that say what stands on the key `k` in the end.
 const TABLES: &[(&str, &[Row])] = &[
@@ -30,7 +31,12 @@ const TABLES: &[(&str, &[Row])] = &[
 #[test]
 fn rows_of_a_key(rt: HostRuntime) {
     for (name, rows) in TABLES {
-        assert_eq!(rt; first_wrong(rt.alloc(), rows), None, "{name}");
+        assert_eq!(rt;
+            first_wrong::<NestedCells>(rt.alloc(), rows),
+            None,
+            "{name}"
+        );
+        assert_eq!(rt; first_wrong::<FlatCells>(rt.alloc(), rows), None, "{name}");
     }
 }
 
@@ -47,6 +53,15 @@ const REGION_TABLES: &[(&str, &[RegionRow])] = &[
 #[test]
 fn rows_of_a_region(rt: HostRuntime) {
     for (name, rows) in REGION_TABLES {
-        assert_eq!(rt; first_wrong_in_region(rt.alloc(), rows), None, "{name}");
+        assert_eq!(rt;
+            first_wrong_in_region::<NestedCells>(rt.alloc(), rows),
+            None,
+            "{name}"
+        );
+        assert_eq!(rt;
+            first_wrong_in_region::<FlatCells>(rt.alloc(), rows),
+            None,
+            "{name}"
+        );
     }
 }

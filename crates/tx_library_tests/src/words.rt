@@ -1,9 +1,10 @@
-//! What calls answer, in a word and a number. Keys and values are single digits here.
+//! What calls answer, in a word and a number. Keys and values are single digits here, and values
+//! of several bytes are numbers to the base 256 whose digits begin at `0`.
 use crate::calls::Came;
 use tx_client::{Miss, Status, WaitCause};
 use tx_core::{Answer, Outcome, UnknownCause};
 use tx_resolve::Counts;
-use tx_types::{Fault, KeyValues, Ts};
+use tx_types::{Fault, KeyValues};
 
 /// What a call answers, in short: a word and a number.
 pub type Short = (&'static str, u64);
@@ -14,30 +15,33 @@ pub const OK: Short = ("ok", 0);
 /// Where a call may not be made, or a session is not there.
 pub const ORDER: Short = ("order", 0);
 
-// The digit that a key or a value is.
-fn digit(bytes: &[u8]) -> u64 {
-    match bytes.first() {
-        Some(byte) => u64::from(byte.wrapping_sub(b'0')),
-        None => 0,
+// The number that a key or a value is.
+fn number(bytes: &[u8]) -> u64 {
+    let mut number = 0_u64;
+    for byte in bytes {
+        number = number
+            .wrapping_mul(256)
+            .wrapping_add(u64::from(byte.wrapping_sub(b'0')));
     }
+    number
 }
 
 // Rows, as the digits of their keys and values one after another.
 fn digits(rows: &KeyValues) -> u64 {
-    let mut number = 0_u64;
+    let mut digits = 0_u64;
     for row in rows.as_slice() {
-        let pair = digit(row.key.as_bytes())
+        let pair = number(row.key.as_bytes())
             .wrapping_mul(10)
-            .wrapping_add(digit(row.value.as_bytes()));
-        number = number.wrapping_mul(100).wrapping_add(pair);
+            .wrapping_add(number(row.value.as_bytes()));
+        digits = digits.wrapping_mul(100).wrapping_add(pair);
     }
-    number
+    digits
 }
 
 // An answer: a lock in the way by its key, a lock that stands by its minimum.
 fn by_answer(answer: &Answer) -> Short {
     match answer {
-        Answer::Found(value) => ("value", digit(value.as_bytes())),
+        Answer::Found(value) => ("value", number(value.as_bytes())),
         Answer::Nothing => ("none", 0),
         Answer::Rows(rows) => ("rows", digits(rows)),
         Answer::Prewritten(minimum) => ("prewritten", minimum.get()),
@@ -46,7 +50,7 @@ fn by_answer(answer: &Answer) -> Short {
         Answer::Ttl(ttl) => ("ttl", u64::from(*ttl)),
         Answer::Missing => ("missing", 0),
         Answer::Locked(info) => ("locked", info.facts().min.get()),
-        Answer::KeyIsLocked(info) => ("E1", digit(info.facts().key.as_bytes())),
+        Answer::KeyIsLocked(info) => ("E1", number(info.facts().key.as_bytes())),
         Answer::WriteConflict { start: _, commit } => ("E2", commit.get()),
         Answer::AlreadyRolledBack => ("E3", 0),
         Answer::AlreadyCommitted { commit } => ("E4", commit.get()),
@@ -58,16 +62,8 @@ fn by_answer(answer: &Answer) -> Short {
     }
 }
 
-// That there is no answer.
-fn by_miss(miss: Miss) -> Short {
-    match miss {
-        Miss::Lost => ("lost", 0),
-        Miss::Fault => ("E12", 0),
-    }
-}
-
-// What a request of a session comes to.
-fn by_phase(response: Result<Option<Answer>, Miss>) -> Short {
+// What a request comes to.
+fn by_response(response: Result<Option<Answer>, Miss>) -> Short {
     match response {
         Ok(Some(answer)) => {
             let short = by_answer(&answer);
@@ -75,19 +71,8 @@ fn by_phase(response: Result<Option<Answer>, Miss>) -> Short {
             short
         }
         Ok(None) => ("done", 0),
-        Err(miss) => by_miss(miss),
-    }
-}
-
-/// What comes of a request.
-pub fn by_response(response: Result<Answer, Miss>) -> Short {
-    match response {
-        Err(miss) => by_miss(miss),
-        Ok(answer) => {
-            let short = by_answer(&answer);
-            drop(answer);
-            short
-        }
+        Err(Miss::Lost) => ("lost", 0),
+        Err(Miss::Fault) => ("E12", 0),
     }
 }
 
@@ -100,24 +85,8 @@ pub fn by_fault(fault: Fault) -> Short {
         Fault::OracleSpent => ("E11", 0),
         Fault::BelowSafePoint { safe } => ("E7", safe.get()),
         Fault::FutureTimestamp { last } => ("E8", last.get()),
-        Fault::LocksRemain(info) => ("E9", digit(info.facts().key.as_bytes())),
+        Fault::LocksRemain(info) => ("E9", number(info.facts().key.as_bytes())),
         _ => ("other", 0),
-    }
-}
-
-// What a call comes to that gives nothing.
-fn by_change(response: Result<(), Fault>) -> Short {
-    match response {
-        Ok(()) => OK,
-        Err(fault) => by_fault(fault),
-    }
-}
-
-// What a call comes to that draws a timestamp.
-fn by_draw(response: Result<Ts, Fault>) -> Short {
-    match response {
-        Ok(drawn) => ("drawn", drawn.get()),
-        Err(fault) => by_fault(fault),
     }
 }
 
@@ -125,9 +94,10 @@ fn by_draw(response: Result<Ts, Fault>) -> Short {
 pub fn by_call(came: Came) -> Short {
     match came {
         Came::Order => ORDER,
-        Came::Changed(response) => by_change(response),
-        Came::Drawn(response) => by_draw(response),
-        Came::Answered(response) => by_phase(response),
+        Came::Changed(Ok(())) => OK,
+        Came::Drawn(Ok(drawn)) => ("drawn", drawn.get()),
+        Came::Changed(Err(fault)) | Came::Drawn(Err(fault)) => by_fault(fault),
+        Came::Answered(response) => by_response(response),
     }
 }
 

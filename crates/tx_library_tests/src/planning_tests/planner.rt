@@ -32,11 +32,11 @@ pub struct Planner<J: JournalId, F: Families + Drop> {
     journal: Journal<J>,
     region: Region<J, F>,
     seat: Seat<J>,
-    handling: Handling,
+    pub handling: Handling,
     held: Vec<Request<J>>,
-    between: Short,
-    stales: u32,
-    refused: u32,
+    pub between: Short,
+    pub stales: u32,
+    pub refused: u32,
 }
 
 impl<J: JournalId, F: Families + Drop> Drop for Planner<J, F> {
@@ -86,17 +86,6 @@ impl<J: JournalId, F: Families + Drop> Planner<J, F> {
             ⟦<Planner<J, F> as Sender<Request<J>, Reply<J>>>⟧.keys_between }
     {
         let _ = self.handling;
-    }
-
-    /// Sets what becomes of the next requests.
-    pub fn handle(&mut self, handling: Handling) {
-        self.handling = handling;
-    }
-
-    /// What the last request that was held was answered, how many plans were stale, and how often
-    /// a copy was refused memory.
-    pub fn came(&self) -> (Short, u32, u32) {
-        (self.between, self.stales, self.refused)
     }
 
     // Takes a request that the region holds.

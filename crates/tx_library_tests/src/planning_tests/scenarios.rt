@@ -19,7 +19,7 @@ const C: usize = 2;
 const LIKE_A: &[u8] = b"rtc";
 
 /// A starts at 1 and declares a put on `a` with the number 2, and B starts at 3.
-pub const ONE_PUT: &[Step] = &[
+const ONE_PUT: &[Step] = &[
     (A, Plain, Begin, SILENT),
     (A, Plain, Put(b"a", b"v"), SILENT),
     (A, Plain, Declare(Mode::Async, None), SILENT),
@@ -35,7 +35,7 @@ const ONE_PUT_IN_TWO_PHASES: &[Step] = &[
 ];
 
 /// A starts at 1, B at 3; both put `a` in two phases.
-pub const TWO_PUTS: &[Step] = &[
+const TWO_PUTS: &[Step] = &[
     (A, Plain, Begin, SILENT),
     (A, Plain, Put(b"a", b"v"), SILENT),
     (A, Plain, Declare(Mode::TwoPhase, None), SILENT),
@@ -45,7 +45,7 @@ pub const TWO_PUTS: &[Step] = &[
 ];
 
 /// A puts `b`, B puts `a`.
-pub const TWO_KEYS: &[Step] = &[
+const TWO_KEYS: &[Step] = &[
     (A, Plain, Begin, SILENT),
     (A, Plain, Put(b"b", b"v"), SILENT),
     (A, Plain, Declare(Mode::TwoPhase, None), SILENT),
@@ -95,7 +95,7 @@ const DELETED: &[Step] = &[
 const LOCKED: Short = (Word::KeyIsLocked, 1, 2);
 
 /// A two-phase lock.
-pub const LOCKS: Short = (Word::Prewritten, 0, 0);
+const LOCKS: Short = (Word::Prewritten, 0, 0);
 
 pub const SCENARIOS: &[Scenario] = &[
     // The minimum that a plan promises lies above each read: one that comes between makes it stale.
@@ -332,7 +332,7 @@ pub const SCENARIOS: &[Scenario] = &[
 
 /// The first look of a request at its key is refused memory, and nothing is recorded: the next
 /// sees nothing there, and is answered as ever.
-pub const REFUSED_COPY: &[Step] = &[
+const REFUSED_COPY: &[Step] = &[
     (A, Planned, Prewrite, SILENT),
     (B, Plain, Get(b"a"), NOTHING),
     (A, Planned, Prewrite, (Word::Prewritten, 4, 0)),
@@ -340,7 +340,7 @@ pub const REFUSED_COPY: &[Step] = &[
 
 /// The change is refused memory, and that is the reply: the key is as it was, and the next plan is
 /// carried out.
-pub const REFUSED_CHANGE: &[Step] = &[
+const REFUSED_CHANGE: &[Step] = &[
     (A, Planned, Prewrite, (Word::Refused, 0, 0)),
     (B, Plain, Get(b"a"), NOTHING),
     (A, Planned, Prewrite, (Word::Prewritten, 4, 0)),
@@ -348,15 +348,28 @@ pub const REFUSED_CHANGE: &[Step] = &[
 
 /// Another key was locked since the copy, so the plan is still right, and its change is refused
 /// memory.
-pub const REFUSED_BESIDE: &[Step] = &[
+const REFUSED_BESIDE: &[Step] = &[
     (A, Held, Prewrite, SILENT),
     (B, Planned, Prewrite, (Word::Refused, 0, 0)),
     (B, Planned, Prewrite, LOCKS),
 ];
 
 /// What is told of the lock in the way is refused memory.
-pub const REFUSED_INFO: &[Step] = &[
+const REFUSED_INFO: &[Step] = &[
     (A, Plain, Prewrite, LOCKS),
     (B, Planned, Prewrite, (Word::Refused, 0, 0)),
     (B, Planned, Prewrite, LOCKED),
+];
+
+/// The call of the families that is refused memory, what sessions do before, the steps, what the
+/// last request that was held is answered, and how often a copy was refused.
+pub type Refusal = (u64, &'static [Step], &'static [Step], Short, u32);
+
+// A request looks at its key when it is copied, and is carried out by a second call of the
+// families.
+pub const REFUSALS: &[Refusal] = &[
+    (1, ONE_PUT, REFUSED_COPY, NOTHING, 1),
+    (2, ONE_PUT, REFUSED_CHANGE, NOTHING, 0),
+    (4, TWO_KEYS, REFUSED_BESIDE, LOCKS, 0),
+    (4, TWO_PUTS, REFUSED_INFO, NOTHING, 0),
 ];

@@ -8,7 +8,6 @@ use crate::table_tests::shown::{Short, Word, answered, is};
 use std::alloc::Global;
 use tx_cells::{Families, Makes};
 use tx_client::{Miss, Session};
-use tx_core::Answer;
 use tx_journal::{JournalId, Opened, Seat};
 use tx_simple::resolve_met;
 use tx_types::Ts;
@@ -16,7 +15,7 @@ use tx_types::Ts;
 /// Which session, how its request is handled, what it does, and what it hears. Sessions have their
 /// numbers by the order in which they begin. What the region collects, and that its safe point is
 /// raised, is held.
-pub type Step = (usize, Handling, Op, Short);
+pub type Step = (usize, Handling, Op<'static>, Short);
 
 /// Nothing is heard.
 pub const SILENT: Short = (Word::Silent, 0, 0);
@@ -33,19 +32,11 @@ struct Seats<J: JournalId> {
     sessions: Vec<Session<J>>,
 }
 
-// What is heard of a request.
-fn heard_reply(response: Result<Option<Answer>, Miss>) -> Short {
-    match response {
-        Ok(Some(answer)) => answered(Ok(answer)),
-        Ok(None) | Err(Miss::Lost) => SILENT,
-        Err(Miss::Fault) => (Word::Refused, 0, 0),
-    }
-}
-
 // What is heard of a call.
 fn heard(came: Came) -> Short {
     match came {
-        Came::Answered(response) => heard_reply(response),
+        Came::Answered(Ok(Some(answer))) => answered(Ok(answer)),
+        Came::Answered(Err(Miss::Fault)) => (Word::Refused, 0, 0),
         other => {
             drop(other);
             SILENT
@@ -86,7 +77,7 @@ fn acts<J: JournalId, F: Families + Drop>(
     planner: &mut Planner<J, F>,
     seats: &mut Seats<J>,
     number: usize,
-    op: Op,
+    op: Op<'static>,
 ) -> Short {
     let Some(session) = seats.sessions.get_mut(number) else {
         return SILENT;
@@ -106,7 +97,7 @@ fn step<J: JournalId, F: Families + Drop>(
     seats: &mut Seats<J>,
     step: &Step,
 ) -> Short {
-    planner.handle(step.1);
+    planner.handling = step.1;
     match step.2 {
         Op::Begin => {
             let _ = begin(alloc, seats);
@@ -139,26 +130,28 @@ fn plays<J: JournalId, F: Families + Drop>(
     true
 }
 
-// What comes of the steps in a region.
+// What comes of the first steps, and then of the others, in a region.
 fn played_in<J: JournalId, F: Families + Drop>(
     alloc: Global,
     mut planner: Planner<J, F>,
     mut seats: Seats<J>,
-    steps: &[Step],
+    (first, then): (&[Step], &[Step]),
 ) -> Played {
-    let right = plays(alloc, &mut planner, &mut seats, steps);
+    let right = plays(alloc, &mut planner, &mut seats, first)
+        && plays(alloc, &mut planner, &mut seats, then);
     drop(seats);
-    let (between, stales, refused) = planner.came();
+    let played = (right, planner.between, planner.stales, planner.refused);
     drop(planner);
-    (right, between, stales, refused)
+    played
 }
 
-/// What comes of the steps, in a region in which nothing happened, over families that are made so.
+/// What comes of the first steps, and then of the others, in a region in which nothing happened,
+/// over families that are made so.
 pub fn played<J: JournalId, F: Families + Drop, M: Makes<F>>(
     alloc: Global,
     opened: Opened,
     make: &M,
-    steps: &[Step],
+    steps: (&[Step], &[Step]),
 ) -> Option<Played>
     requires name { (opened.table ≡ J.table) × (opened.bounds ≡ J.bounds) × (opened.seats ≡ J.seats) }
     requires six { J.seats ≡ 6 }

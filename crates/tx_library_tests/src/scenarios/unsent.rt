@@ -6,7 +6,7 @@ use crate::calls::Op::{
     Begin, Commit, Declare, Delete, Get, Insert, Lock, Prewrite, Put, Resolve, Scan,
 };
 use crate::harness::Who::{A, B};
-use crate::harness::{Step, refuses_first};
+use crate::harness::{Step, run};
 use crate::scenarios::Scenario;
 use std::test::Fail;
 use tx_harness::Delivery::Plain;
@@ -78,10 +78,8 @@ pub const SCENARIOS: &[Scenario] = &[
 #[test]
 fn refusals_send_nothing(rt: HostRuntime) -> Result<(), Fail> {
     for (name, steps) in SCENARIOS {
-        assert!(rt;
-            refuses_first(&rt, rt.alloc(), steps) != Some(false),
-            "{name}"
-        );
+        let refuses_first = !matches!(run(&rt, rt.alloc(), steps), Some((_, false)));
+        assert!(rt; refuses_first, "{name}");
     }
     Ok(())
 }

@@ -5,7 +5,7 @@ use tx_harness::Delivery::{self, Late, Lose, LoseReply, Refuse, Repeat};
 use tx_types::Mode::{self, Async, TwoPhase};
 
 /// What stands in the store when an update begins.
-#[derive(Clone, Copy, PartialEq, Eq)]
+#[derive(Clone, Copy)]
 pub enum Before {
     /// Nothing.
     Empty,

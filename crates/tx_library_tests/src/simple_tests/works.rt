@@ -1,8 +1,8 @@
 //! What the updates of these tests do.
 ghost use Rattle.tx_journal.specs.Senders.{IsSender};
 
-use crate::calls::pair_of;
-use crate::stores::pair;
+use crate::calls::{Op, pair_of};
+use crate::clients::{Call, Site, transact};
 use std::alloc::Global;
 use std::sync::Wait;
 use tx_cells::Families;
@@ -10,11 +10,10 @@ use tx_client::Terms;
 use tx_core::Outcome;
 use tx_journal::{JournalId, Reply, Request, Seat, Sender};
 use tx_simple::{Failure, Seats, Stop, Tx, Work, update};
-use tx_store::{Store, Wire};
 use tx_types::{Key, Mode};
 
 /// What it does with the key `a`, or to it.
-#[derive(Clone, Copy, PartialEq, Eq)]
+#[derive(Clone, Copy)]
 pub enum Deed {
     /// It puts this byte there.
     Put(u8),
@@ -34,24 +33,41 @@ pub enum Deed {
 #[derive(Drop)]
 pub struct GaveUp;
 
-/// One deed, and how often it was done.
+/// One deed, and how often it was done. The first time it lets a rival put 9 on the key `a`, and
+/// commit that, before it is done.
 #[derive(Drop)]
-pub struct Doing {
+pub struct Doing<'a, J: JournalId, F: Families + Drop, R: Wait> {
+    pub site: Site<'a, J, F, R>,
+    pub rival: Option<Seat<J>>,
     pub deed: Deed,
     pub calls: u32,
     /// What was read: 0 for no value.
     pub read: u8,
 }
 
-impl Doing {
-    pub fn new(deed: Deed) -> Doing {
+impl<'a, J: JournalId, F: Families + Drop, R: Wait> Doing<'a, J, F, R> {
+    pub fn new(site: &Site<'a, J, F, R>, rival: Option<Seat<J>>, deed: Deed) -> Doing<'a, J, F, R> {
         Doing {
+            site: Site {
+                rt: site.rt,
+                store: site.store,
+                alloc: site.alloc,
+            },
+            rival,
             deed,
             calls: 0,
             read: 0,
         }
     }
 }
+
+const PUT_9: &[Call<'_>] = &[
+    (Op::Put(b"a", &[9]), "ok"),
+    (Op::Declare(Mode::TwoPhase, None), "ok"),
+    (Op::Prewrite, "prewritten"),
+    (Op::Draw, "drawn"),
+    (Op::Commit, "committed"),
+];
 
 fn put<T: Tx>(tx: &mut T, key: &[u8], byte: u8) -> Result<(), Stop> {
     let (key, value) = pair_of(tx.alloc(), key, &[byte])?;
@@ -71,12 +87,15 @@ fn read<T: Tx>(tx: &mut T) -> Result<u8, Stop> {
     }
 }
 
-impl Work for Doing {
+impl<'a, J: JournalId, F: Families + Drop, R: Wait> Work for Doing<'a, J, F, R> {
     type Out = ();
 
     type Err = GaveUp;
 
     fn apply<T: Tx>(&mut self, tx: &mut T) -> Result<(), Failure<GaveUp>> {
+        if let Some(seat) = self.rival.take() {
+            let _ = transact(&self.site, seat, PUT_9);
+        }
         self.calls = self.calls.saturating_add(1);
         match self.deed {
             Deed::Put(byte) | Deed::PutOnce(byte) => put(tx, b"a", byte)?,
@@ -93,43 +112,6 @@ impl Work for Doing {
 
     fn may_go_on(&self, tries: u32) -> bool {
         tries < 1 || !matches!(self.deed, Deed::PutOnce(_))
-    }
-}
-
-/// A deed that the first time lets a rival put 9 on the key `a`, and commit that, before it is
-/// done.
-#[derive(Drop)]
-pub struct Contended<'a, J: JournalId, F: Families + Drop, R: Wait> {
-    pub rt: &'a R,
-    pub store: &'a Store<J, F>,
-    pub alloc: Global,
-    pub rival: Option<Seats<J>>,
-    pub doing: Doing,
-}
-
-impl<'a, J: JournalId, F: Families + Drop, R: Wait> Work for Contended<'a, J, F, R> {
-    type Out = ();
-
-    type Err = GaveUp;
-
-    fn apply<T: Tx>(&mut self, tx: &mut T) -> Result<(), Failure<GaveUp>> {
-        if let Some(seats) = self.rival.take() {
-            let mut wire = Wire::new(self.rt, self.store);
-            let mut rival = Doing::new(Deed::Put(9));
-            drop(run(
-                self.alloc,
-                seats,
-                (Mode::TwoPhase, 10),
-                0,
-                &mut rival,
-                &mut wire,
-            ));
-        }
-        self.doing.apply(tx)
-    }
-
-    fn may_go_on(&self, tries: u32) -> bool {
-        self.doing.may_go_on(tries)
     }
 }
 
@@ -161,18 +143,12 @@ fn word(stop: &Stop) -> &'static str {
     }
 }
 
-/// The next two seats, for an update.
-pub fn next_seats<J: JournalId>(seats: &mut Vec<Seat<J>>) -> Option<Seats<J>> {
-    let (begins, resolves) = pair(seats)?;
-    Some(Seats { begins, resolves })
-}
-
-/// Runs an update in this mode, with locks that live so long, and tries it again so often: how
-/// the last try ended, in words, and the seats.
+/// Runs an update in this mode, and tries it again so often: how the last try ended, in words, and
+/// the seats.
 pub fn run<J: JournalId, S: Sender<Request<J>, Reply<J>>, W: Work>(
     alloc: Global,
     seats: Seats<J>,
-    how: (Mode, u32),
+    mode: Mode,
     again: u32,
     work: &mut W,
     sender: &mut S,
@@ -180,8 +156,8 @@ pub fn run<J: JournalId, S: Sender<Request<J>, Reply<J>>, W: Work>(
     requires way { IsSender J.bounds S.fits S.sends S.keys_between }
 {
     let terms = Terms {
-        mode: how.0,
-        ttl: how.1,
+        mode,
+        ttl: 10,
         max_commit: None,
     };
     let ended = update(alloc, seats, terms, again, work, sender).ok()?;

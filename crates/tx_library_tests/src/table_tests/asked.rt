@@ -1,7 +1,4 @@
 //! What is asked of a region, in words and numbers.
-ghost use Rattle.tx_core.specs.Allowed.{Allowed};
-ghost use Rattle.tx_core.specs.Histories.{History};
-
 use std::alloc::Global;
 use tx_plan::{
     BatchRollback, Body, Boxed, CheckSecondaryLocks, CheckTxnStatus, Collect, Commit, Get,
@@ -58,12 +55,6 @@ pub fn key(alloc: Global, byte: u8) -> Result<Key, Fault> {
     Key::new(alloc, &[byte])
 }
 
-fn keys(alloc: Global, first: u8, second: u8) -> Result<(Key, Key), Fault> {
-    let first = key(alloc, first)?;
-    let second = key(alloc, second)?;
-    Ok((first, second))
-}
-
 fn starts(alloc: Global, start: u64) -> Result<Starts, Fault> {
     let mut starts = Starts::new(alloc);
     if start != 0 {
@@ -73,37 +64,29 @@ fn starts(alloc: Global, start: u64) -> Result<Starts, Fault> {
 }
 
 fn get(alloc: Global, byte: u8, at: u64, bypass: u64) -> Result<Body, Fault> {
-    let key = key(alloc, byte)?;
-    let bypass = starts(alloc, bypass)?;
     Ok(Body::Get(Get {
-        key,
+        key: key(alloc, byte)?,
         at: Ts::new(at),
-        bypass,
+        bypass: starts(alloc, bypass)?,
     }))
 }
 
 fn scan(alloc: Global, from: u8, to: u8, at: u64, limit: u32, bypass: u64) -> Result<Body, Fault> {
-    let bypass = starts(alloc, bypass)?;
-    let (from, to) = keys(alloc, from, to)?;
     let body = Scan {
-        from,
-        to,
+        from: key(alloc, from)?,
+        to: key(alloc, to)?,
         at: Ts::new(at),
         limit,
-        bypass,
+        bypass: starts(alloc, bypass)?,
     };
     Ok(Body::Scan(Boxed::new(alloc, body)?))
 }
 
-fn value(alloc: Global, length: usize) -> Result<Value, Fault> {
-    let bytes = [b'x'; 300];
-    Value::new(alloc, &bytes[..length.min(300)])
-}
-
 fn mutation(alloc: Global, what: What) -> Result<Mutation, Fault> {
+    let bytes = [b'x'; 300];
     match what {
-        What::Put(length) => Ok(Mutation::Put(value(alloc, length)?)),
-        What::Insert(length) => Ok(Mutation::Insert(value(alloc, length)?)),
+        What::Put(length) => Ok(Mutation::Put(Value::new(alloc, &bytes[..length.min(300)])?)),
+        What::Insert(length) => Ok(Mutation::Insert(Value::new(alloc, &bytes[..length.min(300)])?)),
         What::Delete => Ok(Mutation::Delete),
         What::Lock => Ok(Mutation::Lock),
     }
@@ -124,13 +107,11 @@ fn prewrite(
     mode: Mode,
     max_commit: u64,
 ) -> Result<Body, Fault> {
-    let (key, primary) = keys(alloc, byte, byte)?;
-    let mutation = mutation(alloc, what)?;
     let body = Prewrite {
-        key,
-        mutation,
+        key: key(alloc, byte)?,
+        mutation: mutation(alloc, what)?,
         start: Ts::new(start),
-        primary,
+        primary: key(alloc, byte)?,
         mode,
         max_commit: bound(max_commit),
         floor: Ts::ZERO,
@@ -179,10 +160,8 @@ fn ending(alloc: Global, ask: Ask) -> Result<Body, Fault> {
     }
 }
 
-/// Of the requests that name a region, which are always allowed.
-pub fn of_region(ask: Ask) -> Body
-    ensures { (h : History) → Allowed h result }
-{
+// Of the requests that name a region.
+fn of_region(ask: Ask) -> Body {
     let region = RegionNo::new(0);
     match ask {
         Ask::LocksBelow(safe) => Body::LocksBelow(LocksBelow {

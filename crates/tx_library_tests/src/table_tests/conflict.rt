@@ -1,10 +1,11 @@
 //! E2 to a commit: another transaction's commit record stands at the commit timestamp of a lock.
 use crate::table_tests::asked::key;
+use std::test::Fail;
 use tx_plan::{
     Answer, Commit, KeyChange, LockHead, Plan, PlannedAnswer, RecordHead, ResolveLock, TxnView,
     plan_commit, plan_resolve_lock,
 };
-use tx_types::{Fate, Fault, LockKind, Mode, Ts};
+use tx_types::{Fate, LockKind, Mode, Ts};
 
 // The lock of the transaction that started at 5, and at its commit timestamp the commit record of
 // the one that started at 4.
@@ -41,30 +42,19 @@ fn is_conflict(given: Plan) -> bool {
     told && same
 }
 
-fn commits(rt: &HostRuntime) -> Result<bool, Fault> {
-    let body = Commit {
+#[test]
+fn a_record_at_the_commit_timestamp_is_a_conflict(rt: HostRuntime) -> Result<(), Fail> {
+    let commit = Commit {
         key: key(rt.alloc(), b'k')?,
         start: Ts::new(5),
         commit: Ts::new(9),
     };
-    let given = plan_commit(&view(), Ts::new(3), &body);
-    drop(body);
-    Ok(is_conflict(given))
-}
-
-fn resolves(rt: &HostRuntime) -> Result<bool, Fault> {
-    let body = ResolveLock {
+    assert!(rt; is_conflict(plan_commit(&view(), Ts::new(3), &commit)));
+    let resolve = ResolveLock {
         key: key(rt.alloc(), b'k')?,
         start: Ts::new(5),
         fate: Fate::Committed(Ts::new(9)),
     };
-    let given = plan_resolve_lock(&view(), Ts::new(3), &body);
-    drop(body);
-    Ok(is_conflict(given))
-}
-
-#[test]
-fn a_record_at_the_commit_timestamp_is_a_conflict(rt: HostRuntime) {
-    assert!(rt; commits(&rt).unwrap_or(false));
-    assert!(rt; resolves(&rt).unwrap_or(false));
+    assert!(rt; is_conflict(plan_resolve_lock(&view(), Ts::new(3), &resolve)));
+    Ok(())
 }

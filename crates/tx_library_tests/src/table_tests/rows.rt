@@ -3,8 +3,6 @@ use crate::table_tests::asked::{Ask, body, key};
 use crate::table_tests::shown::{Short, Stand, Word, answered, is, stands};
 use std::alloc::Global;
 use tx_cells::{Families, Fresh};
-use tx_flat::FlatCells;
-use tx_nested::NestedCells;
 use tx_plan::Body;
 use tx_region::{Executed, Records};
 use tx_types::Ts;
@@ -48,37 +46,33 @@ fn ask<F: Families>(tried: &mut Tried<F>, alloc: Global, asked: Ask) -> Short {
     }
 }
 
-fn ask_all<F: Families>(tried: &mut Tried<F>, alloc: Global, asked: &[Ask]) {
-    for one in asked {
-        ask(tried, alloc, *one);
-    }
-}
-
-fn untried<F: Fresh>(alloc: Global) -> Tried<F> {
-    Tried {
-        records: Records::new(alloc, F::fresh(alloc)),
-        read: Ts::ZERO,
-    }
-}
-
 fn stands_on_k<F: Families>(records: &Records<F>, alloc: Global) -> Option<Stand> {
     let key = key(alloc, b'k').ok()?;
     stands(records.cells_of(&key))
 }
 
+// What is answered after all that was asked before.
+fn after<F: Fresh>(alloc: Global, before: &[Ask], asked: Ask) -> (Tried<F>, Short) {
+    let mut tried = Tried {
+        records: Records::new(alloc, F::fresh(alloc)),
+        read: Ts::ZERO,
+    };
+    for one in before {
+        ask(&mut tried, alloc, *one);
+    }
+    let given = ask(&mut tried, alloc, asked);
+    (tried, given)
+}
+
 fn holds<F: Fresh>(alloc: Global, row: &Row) -> bool {
-    let mut tried = untried::<F>(alloc);
-    ask_all(&mut tried, alloc, row.0);
-    let given = ask(&mut tried, alloc, row.1);
+    let (tried, given) = after::<F>(alloc, row.0, row.1);
     let left = stands_on_k(&tried.records, alloc);
     drop(tried);
     is(given, row.2) && left == Some(row.3)
 }
 
 fn holds_in_region<F: Fresh>(alloc: Global, row: &RegionRow) -> bool {
-    let mut tried = untried::<F>(alloc);
-    ask_all(&mut tried, alloc, row.0);
-    let given = ask(&mut tried, alloc, row.1);
+    let (tried, given) = after::<F>(alloc, row.0, row.1);
     let left = [
         tried.read.get(),
         tried.records.safe().get(),
@@ -88,23 +82,13 @@ fn holds_in_region<F: Fresh>(alloc: Global, row: &RegionRow) -> bool {
     is(given, row.2) && left == row.3
 }
 
-fn first_wrong_over<F: Fresh>(alloc: Global, rows: &[Row]) -> Option<usize> {
+/// The place of the first row that does not hold.
+pub fn first_wrong<F: Fresh>(alloc: Global, rows: &[Row]) -> Option<usize> {
     rows.iter().position(|row| !holds::<F>(alloc, row))
 }
 
-fn first_wrong_in_region_over<F: Fresh>(alloc: Global, rows: &[RegionRow]) -> Option<usize> {
+/// The place of the first row that does not hold.
+pub fn first_wrong_in_region<F: Fresh>(alloc: Global, rows: &[RegionRow]) -> Option<usize> {
     rows.iter()
         .position(|row| !holds_in_region::<F>(alloc, row))
-}
-
-/// The place of the first row that does not hold, over each kind of families.
-pub fn first_wrong(alloc: Global, rows: &[Row]) -> Option<usize> {
-    first_wrong_over::<NestedCells>(alloc, rows).or(first_wrong_over::<FlatCells>(alloc, rows))
-}
-
-/// The place of the first row that does not hold, over each kind of families.
-pub fn first_wrong_in_region(alloc: Global, rows: &[RegionRow]) -> Option<usize> {
-    first_wrong_in_region_over::<NestedCells>(alloc, rows).or(first_wrong_in_region_over::<
-        FlatCells,
-    >(alloc, rows))
 }

@@ -1,5 +1,5 @@
 //! What a region answers, and what it then holds, in words and numbers.
-use tx_cells::{KeyVersions, RecordAt, ShownKey};
+use tx_cells::{KeyVersions, ShownKey};
 use tx_plan::{Answer, Infos, RecordHead};
 use tx_types::{Fault, KeyValues, LockInfo};
 
@@ -157,36 +157,24 @@ pub type Stand = [u64; 6];
 /// Nothing stands there.
 pub const BARE: Stand = [0; 6];
 
-fn newest(records: &[RecordAt]) -> (u64, u64) {
-    match records.first() {
-        Some(record) => {
-            let marked = match record.head {
-                RecordHead::Commit {
-                    overlapped_rollback,
-                    ..
-                } => overlapped_rollback,
-                RecordHead::Rollback => false,
-            };
-            (record.at.get(), u64::from(marked))
-        }
-        None => (0, 0),
-    }
-}
-
 fn stand(copy: &KeyVersions) -> Stand {
     let (min, ttl) = match copy.lock {
         Some(lock) => (lock.min.get(), u64::from(lock.ttl)),
         None => (0, 0),
     };
-    let (at, marked) = newest(copy.records.as_slice());
-    [
-        min,
-        ttl,
-        copy.records.as_slice().len() as u64,
-        at,
-        marked,
-        copy.values.as_slice().len() as u64,
-    ]
+    let records = copy.records.as_slice();
+    let (at, marked) = match records.first() {
+        Some(newest) => match newest.head {
+            RecordHead::Commit {
+                overlapped_rollback,
+                ..
+            } => (newest.at.get(), u64::from(overlapped_rollback)),
+            RecordHead::Rollback => (newest.at.get(), 0),
+        },
+        None => (0, 0),
+    };
+    let values = copy.values.as_slice().len() as u64;
+    [min, ttl, records.len() as u64, at, marked, values]
 }
 
 /// What is shown to stand there.
