@@ -14,14 +14,6 @@ use std::test::Fail;
 /// A name, and the steps.
 pub type Scenario = (&'static str, &'static [Step]);
 
-const ALL: &[&[Scenario]] = &[
-    learnt::SCENARIOS,
-    refused::SCENARIOS,
-    resolver::SCENARIOS,
-    short_seats::SCENARIOS,
-    unsent::SCENARIOS,
-];
-
 // The name of the first of these that does not come out as it says.
 fn first_wrong<R: Wait>(rt: &R, alloc: Global, scenarios: &[Scenario]) -> Option<&'static str> {
     for (name, steps) in scenarios {
@@ -33,10 +25,17 @@ fn first_wrong<R: Wait>(rt: &R, alloc: Global, scenarios: &[Scenario]) -> Option
     None
 }
 
+// And of all.
+fn first_wrong_of_all<R: Wait>(rt: &R, alloc: Global) -> Option<&'static str> {
+    first_wrong(rt, alloc, learnt::SCENARIOS)
+        .or(first_wrong(rt, alloc, refused::SCENARIOS))
+        .or(first_wrong(rt, alloc, resolver::SCENARIOS))
+        .or(first_wrong(rt, alloc, short_seats::SCENARIOS))
+        .or(first_wrong(rt, alloc, unsent::SCENARIOS))
+}
+
 #[test]
 fn steps_come_out_as_they_say(rt: HostRuntime) -> Result<(), Fail> {
-    for scenarios in ALL {
-        assert_eq!(rt; first_wrong(&rt, rt.alloc(), scenarios), None);
-    }
+    assert_eq!(rt; first_wrong_of_all(&rt, rt.alloc()), None);
     Ok(())
 }
