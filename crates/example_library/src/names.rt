@@ -81,7 +81,7 @@ impl<R: Wait> Program<R> for Office {
             let user = name * 2 + (client.number() % 2) as u8;
             match client.update(&mut SignUp { user, name }) {
                 Ok(_) => signed = signed.saturating_add(1),
-                Err(NotUpdated::Stopped(Stop::AlreadyExists)) => taken = taken.saturating_add(1),
+                Err(NotUpdated::Stopped(Stop::AlreadyExists(_))) => taken = taken.saturating_add(1),
                 Err(_) => {}
             }
         }

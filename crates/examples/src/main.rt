@@ -168,6 +168,7 @@ const ONE_LINE: ImportOptions = ImportOptions {
     trace: false,
     form: CycleForm::Line,
     all: false,
+    budget: 20_000,
 };
 
 const ORDERED: ImportOptions = ImportOptions {

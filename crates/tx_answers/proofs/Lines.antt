@@ -1,5 +1,5 @@
 -- Words are text, and a line is written part by part.
-use Rattle.std.proofs.Common.{◌≡◌, ℕ, None, List, [], ◌∷◌, ◌++◌, Bool, true, refl, sym, ap, ◌∙◌, append_assoc}
+use Rattle.std.proofs.Common.{◌≡◌, ℕ, length, arith, None, List, [], ◌∷◌, ◌++◌, Bool, true, refl, sym, ap, ◌∙◌, append_assoc}
 use Rattle.std.specs.Prelude.{if◌then◌else◌, IsUtf8}
 use Rattle.std.proofs.lemmas.Str.{is_utf8-from_IsUtf8}
 use Rattle.std.specs.Str.{is_utf8}
@@ -37,3 +37,16 @@ object_end a =
 -- the same, after two members
 pub pair_end : (a b : List ℕ) → a ++ 44 ∷ (b ++ 93 ∷ 10 ∷ []) ≡ (a ++ 44 ∷ (b ++ 93 ∷ [])) ++ 10 ∷ []
 pair_end a b = ap (λ t. a ++ 44 ∷ t) (line_end b) ∙ sym (append_assoc a (44 ∷ (b ++ 93 ∷ [])) (10 ∷ []))
+
+-- the same, after four members
+pub four_end : (a b c d : List ℕ) → a ++ 44 ∷ (b ++ 44 ∷ (c ++ 44 ∷ (d ++ 93 ∷ 10 ∷ [])))
+    ≡ (a ++ 44 ∷ (b ++ 44 ∷ (c ++ 44 ∷ (d ++ 93 ∷ [])))) ++ 10 ∷ []
+four_end a b c d =
+    ap (λ t. a ++ 44 ∷ (b ++ 44 ∷ t)) (pair_end c d)
+    ∙ ap (λ t. a ++ 44 ∷ t) (sym (append_assoc b (44 ∷ (c ++ 44 ∷ (d ++ 93 ∷ []))) (10 ∷ [])))
+    ∙ sym (append_assoc a (44 ∷ (b ++ 44 ∷ (c ++ 44 ∷ (d ++ 93 ∷ [])))) (10 ∷ []))
+
+-- a list of no elements
+pub empty_so : {X : Type 0} (xs : List X) → length xs ≡ 0 → xs ≡ []
+empty_so [] none = refl
+empty_so (x ∷ xs) none = absurd (omega (arith, none))

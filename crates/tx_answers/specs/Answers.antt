@@ -1,5 +1,5 @@
 -- What is answered of the lines of a history.
-use Rattle.std.specs.Prelude.{◌≡◌, ◌⊎◌, ℕ, Bool, true, false, List, [], Option}
+use Rattle.std.specs.Prelude.{◌≡◌, ◌⊎◌, ℕ, ◌+◌, max, Bool, true, false, List, [], Option}
 use Rattle.std.specs.Io.KnownBytes.{Appends}
 use Rattle.tx_text.specs.declared.end.Broken.{Broken}
 use Rattle.tx_text.specs.declared.end.Broken.TheVariants.{Output}
@@ -11,7 +11,11 @@ use Rattle.tx_verdict.specs.declared.verdict.Verdict.{Verdict}
 use Rattle.tx_verdict.specs.Verdicts.{IsVerdict}
 use Rattle.tx_import.specs.declared.reader.History.{History}
 use Rattle.tx_import.specs.declared.reader.LineFault.{LineFault}
+use Rattle.tx_import.specs.declared.recorder.Misrecorded.{Misrecorded}
+use Rattle.tx_import.specs.declared.recorder.Misrecorded.TheVariants.{Empty, EndsEarly, SameId, Mixed}
 use Rattle.tx_import.specs.Histories.{IsHistoryOf, IsFaultOf}
+use Rattle.tx_import.specs.Recorders.{IsMisrecorded, IsTimely, IsBareOf}
+use Rattle.tx_types.specs.declared.fault.Cause.TheVariants.{Form}
 use Rattle.tx_answers.specs.declared.answer.ImportOptions.{ImportOptions}
 use Rattle.tx_answers.specs.declared.answer.ImportEnd.{ImportEnd}
 use Rattle.tx_answers.specs.declared.answer.ImportEnd.TheVariants.{Faulted}
@@ -31,9 +35,27 @@ IsSaidTo false options h text end = IsOne options h text end
 abbrev pub IsSaid : ImportOptions → History → List ℕ → ImportEnd → Type 0
 IsSaid options h text end = IsSaidTo options.all options h text end
 
+-- the line that tells what a recorder got wrong
+abbrev pub line_of : Misrecorded → ℕ
+line_of Empty = 1
+line_of (EndsEarly t) = t + 1
+line_of (SameId t u) = u + 1
+line_of (Mixed k t u) = max t u + 1
+
+-- what the recorder got wrong: the fault of a line
+abbrev pub IsMisread : History → List ℕ → ImportEnd → Type 0
+IsMisread h text end = (m : Misrecorded) × IsMisrecorded h.recording m
+    × (text ≡ reply_text (line_of m, fault_words Form)) × (end ≡ Faulted)
+
+-- what is said of a history, in which maybe some have no operations that failed and of whom nobody
+-- read a value; or what the recorder got wrong
+abbrev pub IsHeard : ImportOptions → History → List ℕ → ImportEnd → Type 0
+IsHeard options h text end = (IsTimely h.recording × ((b : History) × IsBareOf h b × IsSaid options b text end))
+    ⊎ IsMisread h text end
+
 -- the recording of the lines, and what is said of it
 abbrev pub IsJudged : ImportOptions → List (List ℕ) → List ℕ → ImportEnd → Type 0
-IsJudged options lines text end = (h : History) × IsHistoryOf lines h × IsSaid options h text end
+IsJudged options lines text end = (h : History) × IsHistoryOf lines h × IsHeard options h text end
 
 -- the first line that says no transaction, and its line
 abbrev pub IsRead : List (List ℕ) → List ℕ → ImportEnd → Type 0

@@ -5,6 +5,7 @@ use Rattle.tx_verdict.specs.declared.verdict.Edge.{Edge}
 use Rattle.tx_verdict.specs.declared.verdict.Edge.TheVariants.{Ww, Wr, Rw, So, Rt}
 use Rattle.tx_verdict.specs.declared.verdict.CycleStep.{CycleStep}
 use Rattle.tx_verdict.specs.declared.verdict.Cycle.{Cycle}
+use Rattle.tx_verdict.specs.declared.refutation.Refutation.{Refutation}
 use Rattle.tx_verdict.specs.Steps.{step_at}
 use Rattle.tx_import.specs.declared.reader.History.{History}
 use Rattle.tx_ring.specs.Rings.{reach_of, head_text, step_text, end_text}
@@ -55,3 +56,7 @@ picture_of h name steps = head_text name (length steps) (most_of (λ i. reach_at
 -- a cycle
 abbrev pub picture_text : History → Cycle → List ℕ
 picture_text h c = picture_of h (cycle_word c) c.steps.items
+
+-- the last round of a refutation
+abbrev pub refuted_picture : History → Refutation → List ℕ
+refuted_picture h x = picture_of h (codes "order") x.last.items

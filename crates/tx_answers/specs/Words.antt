@@ -1,6 +1,6 @@
 -- The words of what is said of a history. Transactions are told by their ids, keys and values by
 -- their names.
-use Rattle.std.specs.Prelude.{ℕ, ◌+◌, ◌++◌, List, codes, map, length, Option, Some, None, slice_get, option_map}
+use Rattle.std.specs.Prelude.{ℕ, ◌+◌, ◌++◌, List, [], ◌∷◌, codes, map, length, Option, Some, None, slice_get, option_map}
 use Rattle.serde_json.specs.Data.{Data, Items, no_items, item, Members, no_members, member, number, unsigned, string, null, array, object}
 use Rattle.serde_json.specs.View.{items_of}
 use Rattle.tx_types.specs.declared.fault.Cause.TheVariants.{Form}
@@ -18,6 +18,11 @@ use Rattle.tx_verdict.specs.declared.verdict.Cycle.{Cycle}
 use Rattle.tx_verdict.specs.declared.verdict.Rule.{Rule}
 use Rattle.tx_verdict.specs.declared.verdict.Rule.TheVariants as rule
 use Rattle.tx_verdict.specs.declared.verdict.Fact.{Fact}
+use Rattle.tx_verdict.specs.declared.refutation.Order.{Order}
+use Rattle.tx_verdict.specs.declared.refutation.Settled.{Settled}
+use Rattle.tx_verdict.specs.declared.refutation.Hint.{Hint}
+use Rattle.tx_verdict.specs.declared.refutation.Lemma.{Lemma}
+use Rattle.tx_verdict.specs.declared.refutation.Refutation.{Refutation}
 use Rattle.tx_verdict.specs.declared.verdict.Verdict.{Verdict}
 use Rattle.tx_verdict.specs.declared.verdict.Verdict.TheVariants as verdict
 use Rattle.tx_import.specs.declared.name.Name.{Name}
@@ -100,6 +105,50 @@ abbrev pub step_data : History → CycleStep → Data
 step_data h s = array (item (id_data h s.from) (item (string (edge_word s.edge))
     (item (known_key h s.key) (item (id_data h s.to) no_items))))
 
+-- steps, one after the other
+abbrev pub steps_data : History → List CycleStep → Data
+steps_data h steps = array (items_of (map (step_data h) steps))
+
+-- an order that is settled: `[key,id,id,steps]`, where the steps are of the opposite order
+abbrev pub settled_data : History → Settled → Data
+settled_data h f = array (item (key_data h f.order.key) (item (id_data h f.order.first)
+    (item (id_data h f.order.second) (item (steps_data h f.round.items) no_items))))
+
+-- an order: `[key,id,id]`
+abbrev pub order_data : History → Order → Data
+order_data h o = array (item (key_data h o.key) (item (id_data h o.first) (item (id_data h o.second) no_items)))
+
+-- orders, one of which holds
+abbrev pub clause_data : History → List Order → Data
+clause_data h os = array (items_of (map (order_data h) os))
+
+-- what is left of a clause: `[n,order]`, where n is its number from 1 on
+abbrev pub hint_data : History → Hint → Data
+hint_data h n = array (item (number (unsigned (n.lemma + 1))) (item (order_data h n.order) no_items))
+
+abbrev pub hints_data : History → List Hint → Data
+hints_data h ns = array (items_of (map (hint_data h) ns))
+
+-- a clause: `[orders,hints,steps]`
+abbrev pub lemma_data : History → Lemma → Data
+lemma_data h l = array (item (clause_data h l.clause.items) (item (hints_data h l.hints.items)
+    (item (steps_data h l.round.items) no_items)))
+
+-- the orders that are settled
+abbrev pub facts_data : History → Refutation → Data
+facts_data h x = array (items_of (map (settled_data h) x.facts.items))
+
+-- a refutation: the orders that are settled, and the last round; where there are clauses, these and
+-- what is left of them stand between
+abbrev pub told_items : History → Refutation → List Lemma → Items
+told_items h x [] = item (string (codes "order")) (item (facts_data h x) (item (steps_data h x.last.items) no_items))
+told_items h x (l ∷ ls) = item (string (codes "order")) (item (facts_data h x)
+    (item (array (items_of (map (lemma_data h) (l ∷ ls)))) (item (hints_data h x.hints.items)
+    (item (steps_data h x.last.items) no_items))))
+
+abbrev pub refuted_items : History → Refutation → Items
+refuted_items h x = told_items h x x.lemmas.items
+
 -- what is told of a read that cannot be
 abbrev pub fact_members : History → Fact → Members
 fact_members h f = member (codes "txn") (id_data h f.txn) (member (codes "key") (key_data h f.key)
@@ -119,8 +168,10 @@ abbrev pub verdict_text : History → Verdict → List ℕ
 verdict_text h (verdict.Yes t) = line_text (answer_words (codes "yes") (item (object (yes_members h)) no_items))
 verdict_text h (verdict.No c) = line_text (answer_words (codes "no") (item (string (cycle_word c))
     (item (array (items_of (map (step_data h) c.steps.items))) no_items)))
+verdict_text h (verdict.Refuted x) = line_text (answer_words (codes "no") (refuted_items h x))
 verdict_text h (verdict.Fact f) = line_text (answer_words (codes "no") (item (string (rule_word f.rule))
     (item (object (fact_members h f)) no_items)))
 verdict_text h (verdict.Open ks) = line_text (answer_words (codes "open")
     (item (array (items_of (map (key_data h) ks.items))) no_items))
+verdict_text h verdict.Unknown = line_text (answer_words (codes "open") (item (array no_items) no_items))
 verdict_text h (verdict.Twice first second value) = reply_text (second + 1, fault_words Form)

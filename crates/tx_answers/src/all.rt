@@ -29,8 +29,10 @@ fn later_text(
     match verdict {
         Verdict::Yes(_) => Ok(Vec::new(alloc)),
         Verdict::No(_) => answer_text(alloc, options, history, verdict),
+        Verdict::Refuted(_) => answer_text(alloc, options, history, verdict),
         Verdict::Fact(_) => answer_text(alloc, options, history, verdict),
         Verdict::Open(_) => answer_text(alloc, options, history, verdict),
+        Verdict::Unknown => answer_text(alloc, options, history, verdict),
         Verdict::Twice(..) => answer_text(alloc, options, history, verdict),
     }
 }
@@ -130,7 +132,7 @@ pub(crate) fn judged_to_end(
     let mut is_first = true;
     'verdicts: loop {
         let left = left_of(alloc, &history.recording, told.as_slice())?;
-        let verdict = judge(alloc, &left, options.orders)?;
+        let verdict = judge(alloc, &left, options.orders, options.budget)?;
         put_one(alloc, &mut answer, options, history, is_first, &verdict)?;
         let is_more = note_all(&mut told, &history.recording, &verdict);
         if !is_more {

@@ -6,24 +6,26 @@ ghost use Rattle.tx_text.specs.Lines.{lines_of};
 ghost use Rattle.tx_text.specs.Members.{reply_text};
 ghost use Rattle.tx_text.specs.Output.{AppendsPart};
 ghost use Rattle.tx_recording.specs.Recordings.{IsRecording};
+ghost use Rattle.tx_import.specs.Recorders.{IsTimely};
 ghost use Rattle.tx_answers.specs.Words.{verdict_text};
 ghost use Rattle.tx_answers.specs.Traces.{IsTrace};
-ghost use Rattle.tx_answers.specs.Texts.{end_of, cycle_text, IsTextOf};
-ghost use Rattle.tx_answers.specs.Answers.{IsOne, IsSaid, IsAnswer, WritesAnswer, Breaks};
+ghost use Rattle.tx_answers.specs.Texts.{end_of, cycle_text, refuted_text, IsTextOf};
+ghost use Rattle.tx_answers.specs.Answers.{IsOne, IsSaid, IsHeard, line_of as line_of_wrong, IsAnswer, WritesAnswer, Breaks};
 
 use crate::all::judged_to_end;
-use crate::drawing::drawing;
+use crate::drawing::{drawing, refuted_drawing};
 use crate::line::verdict_line;
-use crate::picture::picture;
-use crate::sentences::sentences;
+use crate::picture::{picture, refuted_picture};
+use crate::sentences::{sentences, wrong_sentence};
 use crate::trace::trace_of;
 use std::alloc::Global;
 use std::io::{BufRead, Write};
-use tx_import::{History, LineFault, read_history};
+use tx_import::{History, LineFault, Misrecorded, bare_of, find_misrecorded, read_history};
 use tx_judge::judge;
 use tx_recording::Orders;
 use tx_text::{Broken, finish, put_fault, send};
-use tx_verdict::{Cycle, Timestamps, Verdict};
+use tx_types::Cause;
+use tx_verdict::{Cycle, Refutation, Timestamps, Verdict};
 
 /// How a cycle is told.
 #[derive(Clone, Copy, Debug, PartialEq, Eq)]
@@ -44,6 +46,8 @@ pub struct ImportOptions {
     pub form: CycleForm,
     /// Whether it goes on after a no, with what that leaves.
     pub all: bool,
+    /// How many cycles a search for an order may meet, for each verdict.
+    pub budget: u32,
 }
 
 /// How a verdict ends.
@@ -79,8 +83,8 @@ pub(crate) fn end_of(verdict: &Verdict) -> ImportEnd
 {
     match verdict {
         Verdict::Yes(_) => ImportEnd::Yes,
-        Verdict::No(_) | Verdict::Fact(_) => ImportEnd::No,
-        Verdict::Open(_) => ImportEnd::Open,
+        Verdict::No(_) | Verdict::Refuted(_) | Verdict::Fact(_) => ImportEnd::No,
+        Verdict::Open(_) | Verdict::Unknown => ImportEnd::Open,
         Verdict::Twice(..) => ImportEnd::Faulted,
     }
 }
@@ -120,6 +124,24 @@ fn cycle_text(
     }
 }
 
+// What is written of a refutation.
+fn refuted_text(
+    alloc: Global,
+    form: CycleForm,
+    history: &History,
+    verdict: &Verdict,
+    refutation: &Refutation,
+) -> Result<Vec<u8>, Broken>
+    requires { verdict.now ≡ Verdict.Refuted refutation.now }
+    ensures { IfOk result (λ text. text.items ≡ refuted_text form history.now refutation.now) }
+{
+    match form {
+        CycleForm::Line => Ok(verdict_line(alloc, history, verdict)?),
+        CycleForm::Graph => Ok(refuted_drawing(alloc, history, refutation)?),
+        CycleForm::Picture => Ok(refuted_picture(alloc, history, refutation)?),
+    }
+}
+
 /// What is written of a verdict.
 pub(crate) fn answer_text(
     alloc: Global,
@@ -133,6 +155,9 @@ pub(crate) fn answer_text(
     match verdict {
         Verdict::Yes(timestamps) if options.trace => traced(alloc, history, verdict, timestamps),
         Verdict::No(cycle) => cycle_text(alloc, options.form, history, verdict, cycle),
+        Verdict::Refuted(refutation) => {
+            refuted_text(alloc, options.form, history, verdict, refutation)
+        }
         _ => Ok(verdict_line(alloc, history, verdict)?),
     }
 }
@@ -142,7 +167,7 @@ fn judged_once(alloc: Global, options: ImportOptions, history: &History) -> Resu
     requires { IsRecording history.now.recording }
     ensures { IfOk result (λ answer. IsOne options history.now answer.text.items answer.end) }
 {
-    let verdict = judge(alloc, &history.recording, options.orders)?;
+    let verdict = judge(alloc, &history.recording, options.orders, options.budget)?;
     let text = answer_text(alloc, options, history, &verdict)?;
     let why = sentences(alloc, history, &verdict)?;
     let end = end_of(&verdict);
@@ -174,6 +199,56 @@ fn faulted(alloc: Global, fault: LineFault) -> Result<Answer, Broken>
     })
 }
 
+// What is said of a history of which nothing wrong was found.
+fn heard_bare(alloc: Global, options: ImportOptions, history: History) -> Result<Answer, Broken>
+    requires recording { IsRecording history.recording }
+    requires timely { IsTimely history.recording }
+    ensures { IfOk result (λ answer. IsHeard options history answer.text.items answer.end) }
+{
+    let bare = bare_of(alloc, history)?;
+    let answer = judged(alloc, options, &bare)?;
+    Ok(answer)
+}
+
+// What is said of a history, unless its recorder got something wrong.
+fn heard(alloc: Global, options: ImportOptions, history: History) -> Result<Answer, Broken>
+    requires { IsRecording history.recording }
+    ensures { IfOk result (λ answer. IsHeard options history answer.text.items answer.end) }
+{
+    match find_misrecorded(alloc, &history.recording)? {
+        Some(wrong) => misread(alloc, &history, wrong),
+        None => heard_bare(alloc, options, history),
+    }
+}
+
+// What is said of what a recorder got wrong.
+fn misread(alloc: Global, history: &History, wrong: Misrecorded) -> Result<Answer, Broken>
+    ensures text { IfOk result (λ answer. answer.text.items
+        ≡ reply_text (line_of_wrong wrong, fault_words Cause.Form)) }
+    ensures end { IfOk result (λ answer. answer.end ≡ ImportEnd.Faulted) }
+{
+    let mut text = Vec::new(alloc);
+    put_fault(&mut text, line_of(wrong), Cause::Form)?;
+    let why = wrong_sentence(alloc, history, wrong)?;
+    Ok(Answer {
+        text,
+        end: ImportEnd::Faulted,
+        why,
+    })
+}
+
+// The line that tells what a recorder got wrong.
+fn line_of(wrong: Misrecorded) -> u64
+    ensures { result ≡ line_of_wrong wrong }
+{
+    match wrong {
+        Misrecorded::Empty => 1,
+        Misrecorded::EndsEarly(txn) => u64::from(txn) + 1,
+        Misrecorded::SameId(_, second) => u64::from(second) + 1,
+        Misrecorded::Mixed(_, first, second) => u64::from(first).max(u64::from(second)) + 1,
+    }
+}
+
 // What is said of the lines.
 fn answer_of<R: BufRead>(
     alloc: Global,
@@ -184,7 +259,7 @@ fn answer_of<R: BufRead>(
         (λ input. IsAnswer options (lines_of input) answer.text.items answer.end)) }
 {
     match read_history(alloc, reader)? {
-        Ok(history) => judged(alloc, options, &history),
+        Ok(history) => heard(alloc, options, history),
         Err(fault) => faulted(alloc, fault),
     }
 }
@@ -201,9 +276,9 @@ fn write_out<W: Write>(writer: &mut W, text: &[u8]) -> Result<(), Broken>
 
 /// Judges a history, and writes one line: `["import","yes",{..}]`, `["import","no",..]`,
 /// `["import","open",keys]`, or `[n,"E16",cause]` with the first line that says no transaction.
-/// Where that is asked for, a trace in place of the line of a yes, and the drawing of a cycle in
-/// place of its line; or after a no also what comes of what it leaves, to the end. Nothing is
-/// written before all of it is known.
+/// Where that is asked for, a trace in place of the line of a yes, and the drawing of a cycle or of
+/// a refutation in place of its line; or after a no also what comes of what it leaves, to the end.
+/// Nothing is written before all of it is known.
 ///
 /// `Input` where a read failed, `Output` where a write or the flush failed, `Memory` where a
 /// growth was refused.

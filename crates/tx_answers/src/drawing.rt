@@ -1,12 +1,12 @@
 //! A cycle, drawn for Graphviz.
-ghost use Rattle.std.specs.Prelude.{◌≡◌, ◌++◌, OnOk, IfOk};
+ghost use Rattle.std.specs.Prelude.{◌≡◌, ◌++◌, codes, OnOk, IfOk};
 ghost use Rattle.std.specs.List.{flat_map};
-ghost use Rattle.tx_answers.specs.Drawings.{drawn_byte, quoted, label_text, arrow_text, drawing_text};
+ghost use Rattle.tx_answers.specs.Drawings.{drawn_byte, quoted, label_text, arrow_text, drawing_text, order_text, titled_text, settled_text, lemma_text, refuted_drawing};
 
 use crate::words::{cycle_word, edge_word, put_id, put_key};
 use std::alloc::{AllocError, Global};
 use tx_import::History;
-use tx_verdict::{Cycle, CycleStep};
+use tx_verdict::{Cycle, CycleStep, Lemma, Order, Refutation, Settled};
 
 // Appends a byte of a string of the drawing.
 fn put_byte(out: &mut Vec<u8>, byte: u8) -> Result<(), AllocError>
@@ -104,5 +104,112 @@ pub(crate) fn drawing(
     out.extend_from_slice(b"\" {\n")?;
     put_arrows(alloc, &mut out, history, cycle.steps.as_slice())?;
     out.extend_from_slice(b"}\n")?;
+    Ok(out)
+}
+
+// Which of two wrote a key first, behind words.
+fn order_title(alloc: Global, history: &History, order: Order) -> Result<Vec<u8>, AllocError>
+    ensures { IfOk result (λ text. text.items ≡ codes "not " ++ order_text history.now order) }
+{
+    let mut text = Vec::new(alloc);
+    text.extend_from_slice(b"not ")?;
+    put_id(&mut text, history, order.first)?;
+    text.extend_from_slice(b" before ")?;
+    put_id(&mut text, history, order.second)?;
+    text.extend_from_slice(b" in ")?;
+    put_key(&mut text, history, order.key)?;
+    Ok(text)
+}
+
+// Appends edges under a title.
+fn put_titled(
+    alloc: Global,
+    out: &mut Vec<u8>,
+    history: &History,
+    title: &[u8],
+    steps: &[CycleStep],
+) -> Result<(), AllocError>
+    ensures { OnOk result (out.new.items ≡ out.old.items ++ titled_text history.now title.now steps.now) }
+{
+    out.extend_from_slice(b"digraph ")?;
+    put_quoted(out, title)?;
+    out.extend_from_slice(b" {\n")?;
+    put_arrows(alloc, out, history, steps)?;
+    out.extend_from_slice(b"}\n")
+}
+
+// Appends the round that the opposite of an order closes.
+fn put_settled(
+    alloc: Global,
+    out: &mut Vec<u8>,
+    history: &History,
+    fact: &Settled,
+) -> Result<(), AllocError>
+    ensures { OnOk result (out.new.items ≡ out.old.items ++ settled_text history.now fact.now) }
+{
+    let title = order_title(alloc, history, fact.order)?;
+    put_titled(alloc, out, history, title.as_slice(), fact.round.as_slice())
+}
+
+// Appends the rounds of orders.
+fn put_all_settled(
+    alloc: Global,
+    out: &mut Vec<u8>,
+    history: &History,
+    facts: &[Settled],
+) -> Result<(), AllocError>
+    ensures { OnOk result (out.new.items ≡ out.old.items ++ flat_map (settled_text history.now) facts.now) }
+{
+    for fact in facts {
+        put_settled(alloc, out, history, fact)?;
+    }
+    Ok(())
+}
+
+// Appends the round that the opposites of a clause's orders close.
+fn put_lemma(
+    alloc: Global,
+    out: &mut Vec<u8>,
+    history: &History,
+    lemma: &Lemma,
+) -> Result<(), AllocError>
+    ensures { OnOk result (out.new.items ≡ out.old.items ++ lemma_text history.now lemma.now) }
+{
+    put_titled(alloc, out, history, b"clause", lemma.round.as_slice())
+}
+
+// Appends the rounds of clauses.
+fn put_all_lemmas(
+    alloc: Global,
+    out: &mut Vec<u8>,
+    history: &History,
+    lemmas: &[Lemma],
+) -> Result<(), AllocError>
+    ensures { OnOk result (out.new.items ≡ out.old.items ++ flat_map (lemma_text history.now) lemmas.now) }
+{
+    for lemma in lemmas {
+        put_lemma(alloc, out, history, lemma)?;
+    }
+    Ok(())
+}
+
+/// The rounds of a refutation as graphs for Graphviz.
+pub(crate) fn refuted_drawing(
+    alloc: Global,
+    history: &History,
+    refutation: &Refutation,
+) -> Result<Vec<u8>, AllocError>
+    ensures { IfOk result (λ text. text.items ≡ refuted_drawing history.now refutation.now) }
+{
+    let mut out = Vec::new(alloc);
+    put_all_settled(alloc, &mut out, history, refutation.facts.as_slice())?;
+    put_all_lemmas(alloc, &mut out, history, refutation.lemmas.as_slice())?;
+    put_titled(
+        alloc,
+        &mut out,
+        history,
+        b"order",
+        refutation.last.as_slice(),
+    )?;
     Ok(out)
 }

@@ -1,17 +1,18 @@
 //! The line of a verdict.
-ghost use Rattle.std.specs.Prelude.{◌≡◌, ◌++◌, codes, map, OnOk, IfOk};
+ghost use Rattle.std.specs.Prelude.{◌≡◌, ◌++◌, codes, map, length, OnOk, IfOk};
 ghost use Rattle.serde_json.specs.Data.{array, object, string, item, no_items};
 ghost use Rattle.serde_json.specs.View.{items_of};
 ghost use Rattle.serde_json.specs.Written.{compact_text};
 ghost use Rattle.tx_text.specs.Texts.{line_text, members_text};
-ghost use Rattle.tx_answers.specs.Words.{step_data, key_data, known_key, known_value, known_id, fact_members, yes_members, answer_words, cycle_word as word_of_cycle, edge_word as word_of_edge, rule_word as word_of_rule, verdict_text};
+ghost use Rattle.tx_answers.specs.Words.{step_data, steps_data, settled_data, refuted_items, key_data, known_key, known_value, known_id, fact_members, yes_members, answer_words, cycle_word as word_of_cycle, edge_word as word_of_edge, rule_word as word_of_rule, verdict_text};
 
+use crate::searched::put_searched;
 use crate::words::{cycle_word, edge_word, put_id, put_key, put_value, rule_word};
 use std::alloc::{AllocError, Global};
 use tx_import::History;
 use tx_text::{put_digits, put_fault, put_string};
 use tx_types::Cause;
-use tx_verdict::{Cycle, CycleStep, Edge, Fact, Rule, Verdict};
+use tx_verdict::{Cycle, CycleStep, Edge, Fact, Refutation, Rule, Settled, Verdict};
 
 // Appends the name of a key, where there is one.
 fn put_known_key(out: &mut Vec<u8>, history: &History, key: Option<u32>) -> Result<(), AllocError>
@@ -86,6 +87,66 @@ fn put_steps(out: &mut Vec<u8>, history: &History, steps: &[CycleStep]) -> Resul
     out.extend_from_slice(b"[")?;
     put_step(out, history, first)?;
     put_more_steps(out, history, others)?;
+    out.extend_from_slice(b"]")
+}
+
+// Appends an order that is settled, with its round.
+fn put_settled(out: &mut Vec<u8>, history: &History, fact: &Settled) -> Result<(), AllocError>
+    ensures { OnOk result (out.new.items ≡ out.old.items ++ compact_text (settled_data history.now fact.now)) }
+{
+    out.extend_from_slice(b"[")?;
+    put_key(out, history, fact.order.key)?;
+    out.extend_from_slice(b",")?;
+    put_id(out, history, fact.order.first)?;
+    out.extend_from_slice(b",")?;
+    put_id(out, history, fact.order.second)?;
+    out.extend_from_slice(b",")?;
+    put_round(out, history, &fact.round)?;
+    out.extend_from_slice(b"]")
+}
+
+/// Appends the steps of a round.
+pub(crate) fn put_round(
+    out: &mut Vec<u8>,
+    history: &History,
+    round: &Vec<CycleStep>,
+) -> Result<(), AllocError>
+    ensures { OnOk result (out.new.items ≡ out.old.items ++ compact_text (steps_data history.now round.now.items)) }
+{
+    put_steps(out, history, round.as_slice())
+}
+
+// Appends orders that are settled, each with a comma before it.
+fn put_more_settled(
+    out: &mut Vec<u8>,
+    history: &History,
+    facts: &[Settled],
+) -> Result<(), AllocError>
+    ensures { OnOk result (out.new.items ≡ out.old.items
+        ++ members_text (items_of (map (settled_data history.now) facts.now))) }
+{
+    for fact in facts {
+        out.push(b',')?;
+        put_settled(out, history, fact)?;
+    }
+    Ok(())
+}
+
+/// Appends the orders that are settled.
+pub(crate) fn put_all_settled(
+    out: &mut Vec<u8>,
+    history: &History,
+    facts: &[Settled],
+) -> Result<(), AllocError>
+    ensures { OnOk result (out.new.items ≡ out.old.items
+        ++ compact_text (array (items_of (map (settled_data history.now) facts.now)))) }
+{
+    let Some((first, others)) = facts.split_first() else {
+        return out.extend_from_slice(b"[]");
+    };
+    out.extend_from_slice(b"[")?;
+    put_settled(out, history, first)?;
+    put_more_settled(out, history, others)?;
     out.extend_from_slice(b"]")
 }
 
@@ -180,6 +241,39 @@ fn put_cycle(out: &mut Vec<u8>, history: &History, cycle: &Cycle) -> Result<(), 
     out.extend_from_slice(b"]\n")
 }
 
+// Appends the line of a refutation that has no clauses.
+#[tactic(auto, unfolding(json::specs::Print::escape_byte))]
+fn put_refuted(
+    out: &mut Vec<u8>,
+    history: &History,
+    refutation: &Refutation,
+) -> Result<(), AllocError>
+    requires { length refutation.now.lemmas.items ≡ 0 }
+    ensures { OnOk result (out.new.items ≡ out.old.items ++ line_text (answer_words (codes "no")
+        (refuted_items history.now refutation.now))) }
+{
+    out.extend_from_slice(b"[\"import\",\"no\",\"order\",")?;
+    put_all_settled(out, history, refutation.facts.as_slice())?;
+    out.extend_from_slice(b",")?;
+    put_steps(out, history, refutation.last.as_slice())?;
+    out.extend_from_slice(b"]\n")
+}
+
+// Appends the line of a refutation.
+fn put_refutation(
+    out: &mut Vec<u8>,
+    history: &History,
+    refutation: &Refutation,
+) -> Result<(), AllocError>
+    ensures { OnOk result (out.new.items ≡ out.old.items ++ line_text (answer_words (codes "no")
+        (refuted_items history.now refutation.now))) }
+{
+    if refutation.lemmas.len() == 0 {
+        return put_refuted(out, history, refutation);
+    }
+    put_searched(out, history, refutation)
+}
+
 // Appends the line of a read that cannot be.
 #[tactic(auto, unfolding(json::specs::Print::escape_byte))]
 fn put_fact_line(out: &mut Vec<u8>, history: &History, fact: Fact) -> Result<(), AllocError>
@@ -216,8 +310,10 @@ pub(crate) fn verdict_line(
     match verdict {
         Verdict::Yes(_) => put_yes(&mut out, history)?,
         Verdict::No(cycle) => put_cycle(&mut out, history, cycle)?,
+        Verdict::Refuted(refutation) => put_refutation(&mut out, history, refutation)?,
         Verdict::Fact(fact) => put_fact_line(&mut out, history, *fact)?,
         Verdict::Open(keys) => put_open(&mut out, history, keys.as_slice())?,
+        Verdict::Unknown => put_open(&mut out, history, &[])?,
         Verdict::Twice(_, second, _) => {
             put_fault(&mut out, u64::from(*second) + 1, Cause::Form)?;
         }

@@ -2,16 +2,15 @@
 ghost use Rattle.std.specs.Prelude.{◌≡◌, ◌<◌, ◌++◌, length, OnOk, IfOk};
 ghost use Rattle.tx_verdict.specs.Steps.{step_at};
 ghost use Rattle.tx_answers.specs.Traces.{each_of};
-ghost use Rattle.tx_answers.specs.Pictures.{id_text, told_text, sense_text, reach_at, most_of, piece_text, piece_at, last_word, picture_of, picture_text};
-ghost use Rattle.tx_answers.specs.Words.{cycle_word as word_of_cycle};
-ghost use Rattle.tx_ring.specs.Rings.{head_text, end_text};
+ghost use Rattle.tx_answers.specs.Pictures.{id_text, told_text, sense_text, reach_at, most_of, piece_text, piece_at, last_word, picture_of, picture_text, refuted_picture};
+ghost use Rattle.tx_ring.specs.Rings.{end_text};
 
 use crate::drawing::label;
 use crate::words::{cycle_word, edge_word, put_id};
 use std::alloc::{AllocError, Global};
 use tx_import::History;
 use tx_ring::{put_end, put_head, put_step, reach_of};
-use tx_verdict::{Cycle, CycleStep, Edge};
+use tx_verdict::{Cycle, CycleStep, Edge, Refutation};
 
 // The id of a transaction.
 fn name(alloc: Global, history: &History, txn: u32) -> Result<Vec<u8>, AllocError>
@@ -157,13 +156,6 @@ fn last_kind(steps: &[CycleStep]) -> &'static str
     edge_word(steps[steps.len() - 1].edge)
 }
 
-// Appends the head of the picture of a cycle of so many edges, whose words reach so far.
-fn put_title(out: &mut Vec<u8>, cycle: &Cycle, count: usize, reach: usize) -> Result<(), AllocError>
-    ensures { OnOk result (out.new.items ≡ out.old.items ++ head_text (word_of_cycle cycle.now) count reach) }
-{
-    put_head(out, cycle_word(cycle), count, reach)
-}
-
 // Appends the last edge, and the end.
 fn put_last(out: &mut Vec<u8>, steps: &[CycleStep]) -> Result<(), AllocError>
     ensures { OnOk result (out.new.items ≡ out.old.items ++ end_text (length steps.now) (last_word steps.now)) }
@@ -171,18 +163,18 @@ fn put_last(out: &mut Vec<u8>, steps: &[CycleStep]) -> Result<(), AllocError>
     put_end(out, steps.len(), last_kind(steps))
 }
 
-// A cycle of these edges as an SVG.
+// A cycle of these edges as an SVG, under a title.
 fn picture_of(
     alloc: Global,
     history: &History,
-    cycle: &Cycle,
+    title: &str,
     steps: &[CycleStep],
 ) -> Result<Vec<u8>, AllocError>
-    ensures { IfOk result (λ text. text.items ≡ picture_of history.now (word_of_cycle cycle.now) steps.now) }
+    ensures { IfOk result (λ text. text.items ≡ picture_of history.now title.now steps.now) }
 {
     let reach = reach_over(alloc, history, steps)?;
     let mut out = Vec::new(alloc);
-    put_title(&mut out, cycle, steps.len(), reach)?;
+    put_head(&mut out, title, steps.len(), reach)?;
     put_pieces(alloc, &mut out, history, steps)?;
     put_last(&mut out, steps)?;
     Ok(out)
@@ -196,5 +188,16 @@ pub(crate) fn picture(
 ) -> Result<Vec<u8>, AllocError>
     ensures { IfOk result (λ text. text.items ≡ picture_text history.now cycle.now) }
 {
-    picture_of(alloc, history, cycle, cycle.steps.as_slice())
+    picture_of(alloc, history, cycle_word(cycle), cycle.steps.as_slice())
+}
+
+/// The last round of a refutation as an SVG.
+pub(crate) fn refuted_picture(
+    alloc: Global,
+    history: &History,
+    refutation: &Refutation,
+) -> Result<Vec<u8>, AllocError>
+    ensures { IfOk result (λ text. text.items ≡ refuted_picture history.now refutation.now) }
+{
+    picture_of(alloc, history, "order", refutation.last.as_slice())
 }

@@ -1,8 +1,10 @@
 //! Why a verdict is one, in sentences for who reads them: one an edge of a cycle.
 use crate::words::{put_id, put_key, put_value};
 use std::alloc::{AllocError, Global};
-use tx_import::History;
-use tx_verdict::{Cycle, CycleStep, Edge, Fact, Rule, Verdict};
+use tx_import::{History, Misrecorded};
+use tx_recording::Outcome;
+use tx_text::put_digits;
+use tx_verdict::{Cycle, CycleStep, Edge, Fact, Hint, Lemma, Order, Refutation, Rule, Verdict};
 
 // A text that names transactions, keys and values of a history.
 #[derive(Drop)]
@@ -34,7 +36,7 @@ impl<'a> Sentence<'a> {
     // What an edge of a cycle says.
     fn step(&mut self, step: CycleStep) -> Result<(), AllocError> {
         let (first, second, between, last) = match step.edge {
-            Edge::Ww => (step.to, step.from, " wrote ", " next after "),
+            Edge::Ww => (step.to, step.from, " wrote ", " after "),
             Edge::Wr => (step.to, step.from, " read in ", " what was written by "),
             Edge::Rw => (
                 step.from,
@@ -64,6 +66,79 @@ impl<'a> Sentence<'a> {
             self.step(*step)?;
         }
         Ok(())
+    }
+
+    fn steps(&mut self, steps: &[CycleStep]) -> Result<(), AllocError> {
+        for step in steps {
+            self.step(*step)?;
+        }
+        Ok(())
+    }
+
+    // Of two that wrote a key, which did first.
+    fn order(&mut self, order: Order) -> Result<(), AllocError> {
+        self.txn(order.first)?;
+        self.say(" wrote ")?;
+        self.key(order.key)?;
+        self.say(" before ")?;
+        self.txn(order.second)
+    }
+
+    // Orders that are settled, each with the round of the opposite one.
+    fn facts(&mut self, refutation: &Refutation) -> Result<(), AllocError> {
+        for fact in refutation.facts.as_slice() {
+            self.say("txkv: ")?;
+            self.order(fact.order)?;
+            self.say(", as the other way round would need this circle:\n")?;
+            self.steps(fact.round.as_slice())?;
+        }
+        Ok(())
+    }
+
+    // What is left of clauses.
+    fn hints(&mut self, hints: &[Hint]) -> Result<(), AllocError> {
+        for hint in hints {
+            self.say("txkv: of choice ")?;
+            put_digits(&mut self.text, u64::from(hint.lemma) + 1)?;
+            self.say(" it is left that ")?;
+            self.order(hint.order)?;
+            self.say("\n")?;
+        }
+        Ok(())
+    }
+
+    // The orders of a clause.
+    fn clause(&mut self, orders: &[Order]) -> Result<(), AllocError> {
+        let mut between = "";
+        'orders: for order in orders {
+            self.say(between)?;
+            self.order(*order)?;
+            between = ", or ";
+        }
+        Ok(())
+    }
+
+    // A clause, with what it follows from.
+    fn lemma(&mut self, number: usize, lemma: &Lemma) -> Result<(), AllocError> {
+        self.say("txkv: choice ")?;
+        put_digits(&mut self.text, number as u64)?;
+        self.say(": ")?;
+        self.clause(lemma.clause.as_slice())?;
+        self.say(", as else this circle is there:\n")?;
+        self.hints(lemma.hints.as_slice())?;
+        self.steps(lemma.round.as_slice())
+    }
+
+    // Orders, clauses, and the last round.
+    fn refutation(&mut self, refutation: &Refutation) -> Result<(), AllocError> {
+        self.facts(refutation)?;
+        let lemmas = refutation.lemmas.as_slice();
+        for i in 0..lemmas.len() {
+            self.lemma(i + 1, &lemmas[i])?;
+        }
+        self.hints(refutation.hints.as_slice())?;
+        self.say("txkv: so this circle is left:\n")?;
+        self.steps(refutation.last.as_slice())
     }
 
     // A key between words.
@@ -133,26 +208,93 @@ impl<'a> Sentence<'a> {
             self.key(*key)?;
             between = ", ";
         }
-        self.say("\n")
+        self.say("\ntxkv: no order was found of them: --budget N looks longer\n")
     }
 
     fn verdict(&mut self, verdict: &Verdict) -> Result<(), AllocError> {
         match verdict {
             Verdict::Yes(_) => Ok(()),
             Verdict::No(cycle) => self.cycle(cycle),
+            Verdict::Refuted(refutation) => self.refutation(refutation),
             Verdict::Fact(fact) => self.fact(*fact),
             Verdict::Open(keys) => self.open(keys.as_slice()),
-            Verdict::Twice(first, second, value) => {
-                self.say("txkv: ")?;
-                self.value(Some(*value))?;
-                self.say(" is given to its key twice: by ")?;
-                self.txn(*first)?;
-                self.say(" and by ")?;
-                self.txn(*second)?;
-                self.say("\n")
+            Verdict::Unknown => self.say("txkv: neither an explanation nor a circle was found\n"),
+            Verdict::Twice(first, second, value) => self.twice(*first, *second, *value),
+        }
+    }
+
+    // The line of a transaction.
+    fn line(&mut self, txn: u32) -> Result<(), AllocError> {
+        self.say("line ")?;
+        put_digits(&mut self.text, u64::from(txn) + 1)
+    }
+
+    // Whether a transaction failed.
+    fn has_failed(&self, txn: u32) -> bool {
+        match self.history.recording.transactions.get(txn as usize) {
+            Some(transaction) => matches!(transaction.outcome, Outcome::Fail),
+            None => false,
+        }
+    }
+
+    // A value that two gave to its key.
+    fn twice(&mut self, first: u32, second: u32, value: u32) -> Result<(), AllocError> {
+        self.say("txkv: ")?;
+        self.line(second)?;
+        self.say(" gives ")?;
+        self.value(Some(value))?;
+        if let Some(found) = self.history.tables.values.get(value as usize) {
+            self.key_in(" to ", found.key, "")?;
+        }
+        self.say(" again, which ")?;
+        self.line(first)?;
+        self.say(" gave it")?;
+        if self.has_failed(first) || self.has_failed(second) {
+            self.say(": one of them failed, but that value or another of it was read")?;
+        }
+        self.say("\n")
+    }
+
+    // What a recorder got wrong.
+    fn wrong(&mut self, wrong: Misrecorded) -> Result<(), AllocError> {
+        self.say("txkv: ")?;
+        match wrong {
+            Misrecorded::Empty => self.say("there is no transaction\n"),
+            Misrecorded::EndsEarly(txn) => {
+                self.line(txn)?;
+                self.say(": its end lies below its start\n")
+            }
+            Misrecorded::SameId(first, second) => {
+                self.line(second)?;
+                self.say(" is called ")?;
+                self.txn(second)?;
+                self.say(", as ")?;
+                self.line(first)?;
+                self.say(" is; a line without an id is called by its number\n")
+            }
+            Misrecorded::Mixed(key, first, second) => {
+                self.key_in("for ", key, " ")?;
+                self.line(first)?;
+                self.say(" has a list, and ")?;
+                self.line(second)?;
+                self.say(" writes a register\n")
             }
         }
     }
+}
+
+/// The sentence that says what a recorder got wrong.
+pub(crate) fn wrong_sentence(
+    alloc: Global,
+    history: &History,
+    wrong: Misrecorded,
+) -> Result<Vec<u8>, AllocError> {
+    let mut sentence = Sentence {
+        history,
+        text: Vec::new(alloc),
+    };
+    sentence.wrong(wrong)?;
+    Ok(sentence.text)
 }
 
 /// The sentences of a verdict, each a line; none of a yes.

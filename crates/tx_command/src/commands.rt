@@ -2,19 +2,28 @@
 use crate::cells::{CellsKind, cells_of, cells_option};
 use crate::generated::{GenerateOptions, generate, generate_options};
 use crate::help;
+use crate::samples::SAMPLE_NAMES;
+use crate::topics::REFUSAL_NAMES;
 use clap::builder::ValueParser;
-use clap::{Arg, ArgAction, ArgMatches, Command, Error};
+use clap::{Arg, ArgAction, ArgMatches, Command};
 use std::alloc::{AllocError, Global};
-use tx_hints::Shell;
+use tx_sentences::InputKind;
 use tx_types::limits::MAX_WORKERS;
 
 /// The longest that a version may be kept, in ticks: as long as all timestamps last.
 const MAX_LIFE_TIME: u64 = 4_398_046_511_104;
 
+// How many cycles a search may meet, where that is not told, and at most.
+const BUDGET: u64 = 20_000;
+
+const MAX_BUDGET: u64 = 1_000_000_000;
+
 /// What is done with the input.
 #[derive(Clone, Copy, Debug, PartialEq, Eq)]
 pub enum CommandTask {
     Simulate,
+    /// Simulate, and go on after a fault.
+    SimulateOn,
     /// Simulate, and tell the machine's steps of the run.
     SimulateChecked,
     /// Simulate, and tell the machine's steps alone.
@@ -25,6 +34,8 @@ pub enum CommandTask {
     Explain(ExplainOptions),
     /// Write a script by chance.
     Generate(GenerateOptions),
+    /// Make a script shorter that shows something.
+    Reduce,
     /// By so many workers; what is out of date for so many ticks is collected meanwhile.
     Run(usize, Option<u64>),
     Check,
@@ -34,6 +45,27 @@ pub enum CommandTask {
     CheckAll(bool),
     /// Judge a history of any store.
     Import(ImportOptions),
+}
+
+impl CommandTask {
+    /// What the lines say that it reads: none where it reads none.
+    pub fn reads(self) -> Option<InputKind> {
+        match self {
+            CommandTask::Simulate
+            | CommandTask::SimulateOn
+            | CommandTask::SimulateChecked
+            | CommandTask::SimulateSteps
+            | CommandTask::SimulateBeside
+            | CommandTask::Explain(_)
+            | CommandTask::Reduce => Some(InputKind::Script),
+            CommandTask::Run(..) => Some(InputKind::Run),
+            CommandTask::Check | CommandTask::CheckWithReason | CommandTask::CheckAll(_) => {
+                Some(InputKind::Trace)
+            }
+            CommandTask::Import(_) => Some(InputKind::History),
+            CommandTask::Generate(_) => None,
+        }
+    }
 }
 
 /// How a run is shown.
@@ -60,6 +92,8 @@ pub struct ImportOptions {
     pub svg: bool,
     /// Whether it goes on after a no.
     pub all: bool,
+    /// How many cycles a search for an order may meet.
+    pub budget: u64,
 }
 
 /// What the command line asks for.
@@ -70,6 +104,10 @@ pub struct CommandLine<'a> {
     pub cells: CellsKind,
     /// Whether what a run came to is told on standard error.
     pub has_stats: bool,
+    /// Whether empty lines and those that begin with `#` are passed over.
+    pub has_comments: bool,
+    /// What a reply of a script that is made shorter must have in it.
+    pub keep: &'a str,
     /// The file that it reads; None is standard input.
     pub file: Option<&'a str>,
 }
@@ -81,6 +119,7 @@ fn task_of(name: &str, asked: &ArgMatches<'_>) -> CommandTask {
             asked.get_one::<usize>("workers").unwrap_or(1),
             asked.get_one::<u64>("gc-life-time"),
         ),
+        "simulate" if asked.get_flag("go-on") => CommandTask::SimulateOn,
         "simulate" if asked.get_flag("check") => CommandTask::SimulateChecked,
         "simulate" if asked.get_flag("beside") => CommandTask::SimulateBeside,
         "simulate" if asked.get_flag("steps") => CommandTask::SimulateSteps,
@@ -92,8 +131,10 @@ fn task_of(name: &str, asked: &ArgMatches<'_>) -> CommandTask {
             dot: asked.get_flag("dot"),
             svg: asked.get_flag("svg"),
             all: asked.get_flag("all"),
+            budget: asked.get_one::<u64>("budget").unwrap_or(BUDGET),
         }),
         "generate" => CommandTask::Generate(generate_options(asked)),
+        "reduce" => CommandTask::Reduce,
         "explain" => CommandTask::Explain(ExplainOptions {
             svg: asked.get_flag("svg"),
             machine: asked.get_flag("machine"),
@@ -111,12 +152,16 @@ pub fn job_of<'a>(matches: &ArgMatches<'a>) -> CommandLine<'a> {
             task: task_of(name, asked),
             cells: cells_of(asked),
             has_stats: asked.get_flag("stats"),
+            has_comments: asked.get_flag("comments"),
+            keep: asked.get_str("keep").unwrap_or_default(),
             file: file_of(asked),
         },
         None => CommandLine {
             task: CommandTask::Check,
             cells: CellsKind::Flat,
             has_stats: false,
+            has_comments: false,
+            keep: "",
             file: None,
         },
     }
@@ -140,6 +185,12 @@ fn flag<'a>(alloc: Global, name: &'a str, help: &'a str) -> Arg<'a> {
         .long(name)
         .action(ArgAction::SetTrue)
         .help(help)
+}
+
+// What passes over comments.
+fn comments<'a>(alloc: Global) -> Arg<'a> {
+    let help = "Passes over empty lines and lines that begin with #; what is left is numbered";
+    flag(alloc, "comments", help)
 }
 
 // A command with one more argument, if there was memory for that.
@@ -181,6 +232,15 @@ fn beside<'a>(alloc: Global) -> Result<Arg<'a>, AllocError> {
     flag(alloc, "beside", help).requires_arg("steps")
 }
 
+// Going on after a fault.
+fn go_on<'a>(alloc: Global) -> Result<Arg<'a>, AllocError> {
+    let help =
+        "Tells a fault and reads the next line, with no limit of lines: for programs that ask by lines";
+    flag(alloc, "go-on", help)
+        .conflicts_with("check")?
+        .conflicts_with("steps")
+}
+
 fn simulate<'a>(alloc: Global) -> Result<Command<'a>, AllocError> {
     let checked = "Writes the machine's steps of the run after its replies, and that they are one";
     let command = Command::new(alloc, "simulate")
@@ -189,7 +249,11 @@ fn simulate<'a>(alloc: Global) -> Result<Command<'a>, AllocError> {
         .arg(flag(alloc, "check", checked))?;
     let command = with(command, steps(alloc))?;
     let command = with(command, beside(alloc))?;
-    command.arg(cells_option(alloc))?.arg(file(alloc))
+    let command = with(command, go_on(alloc))?;
+    command
+        .arg(comments(alloc))?
+        .arg(cells_option(alloc))?
+        .arg(file(alloc))
 }
 
 fn explain<'a>(alloc: Global) -> Result<Command<'a>, AllocError> {
@@ -201,6 +265,7 @@ fn explain<'a>(alloc: Global) -> Result<Command<'a>, AllocError> {
         .after_help(help::EXPLAIN_HELP)
         .arg(flag(alloc, "svg", svg))?
         .arg(flag(alloc, "machine", machine))?
+        .arg(comments(alloc))?
         .arg(cells_option(alloc))?
         .arg(file(alloc))
 }
@@ -220,9 +285,7 @@ fn life_time<'a>(alloc: Global) -> Arg<'a> {
     Arg::new(alloc, "gc-life-time")
         .long("gc-life-time")
         .value_name("TICKS")
-        .help(
-            "Collects meanwhile what is out of date for so many ticks; without it nothing is collected",
-        )
+        .help("Collects meanwhile what is out of date for so many ticks; else nothing")
         .value_parser(ValueParser::Unsigned(1, MAX_LIFE_TIME))
 }
 
@@ -234,6 +297,7 @@ fn run<'a>(alloc: Global) -> Result<Command<'a>, AllocError> {
         .arg(workers(alloc))?
         .arg(life_time(alloc))?
         .arg(flag(alloc, "stats", stats))?
+        .arg(comments(alloc))?
         .arg(cells_option(alloc))?
         .arg(file(alloc))
 }
@@ -244,6 +308,15 @@ fn cycle_drawing<'a>(alloc: Global) -> Result<Arg<'a>, AllocError> {
     flag(alloc, "svg", help)
         .conflicts_with("dot")?
         .conflicts_with("all")
+}
+
+// How long a search may go on.
+fn budget<'a>(alloc: Global) -> Arg<'a> {
+    Arg::new(alloc, "budget")
+        .long("budget")
+        .value_name("N")
+        .help("How many circles a search for an order may meet, 20000 unless told, some seconds")
+        .value_parser(ValueParser::Unsigned(0, MAX_BUDGET))
 }
 
 fn import<'a>(alloc: Global) -> Result<Command<'a>, AllocError> {
@@ -260,7 +333,10 @@ fn import<'a>(alloc: Global) -> Result<Command<'a>, AllocError> {
         .arg(flag(alloc, "trace", trace))?
         .arg(flag(alloc, "dot", dot))?;
     let command = with(command, cycle_drawing(alloc))?;
-    command.arg(flag(alloc, "all", all))?.arg(file(alloc))
+    command
+        .arg(flag(alloc, "all", all))?
+        .arg(budget(alloc))?
+        .arg(file(alloc))
 }
 
 static SHELLS: [&str; 3] = ["bash", "zsh", "fish"];
@@ -277,14 +353,44 @@ fn completions<'a>(alloc: Global) -> Result<Command<'a>, AllocError> {
         .arg(shell)
 }
 
-fn refusals<'a>(alloc: Global) -> Command<'a> {
+fn refusals<'a>(alloc: Global) -> Result<Command<'a>, AllocError> {
+    let refusal = Arg::new(alloc, "refusal")
+        .value_name("REFUSAL")
+        .help("The one to tell of; nothing is all")
+        .value_parser(ValueParser::Names(&REFUSAL_NAMES));
     Command::new(alloc, "refusals")
         .about(help::REFUSALS_ABOUT)
         .after_help(help::REFUSALS)
+        .arg(refusal)
 }
 
-// The program with its commands, as a command line may say them.
-fn program<'a>(alloc: Global) -> Result<Command<'a>, AllocError> {
+fn example<'a>(alloc: Global) -> Result<Command<'a>, AllocError> {
+    let name = Arg::new(alloc, "name")
+        .value_name("NAME")
+        .help("Which; nothing lists them")
+        .value_parser(ValueParser::Names(&SAMPLE_NAMES));
+    Command::new(alloc, "example")
+        .about(help::EXAMPLE_ABOUT)
+        .after_help(help::EXAMPLE_HELP)
+        .arg(name)
+}
+
+fn reduce<'a>(alloc: Global) -> Result<Command<'a>, AllocError> {
+    let keep = Arg::new(alloc, "keep")
+        .long("keep")
+        .value_name("TEXT")
+        .help("What a reply is to have in it")
+        .required(true);
+    Command::new(alloc, "reduce")
+        .about(help::REDUCE_ABOUT)
+        .after_help(help::REDUCE_HELP)
+        .arg(keep)?
+        .arg(comments(alloc))?
+        .arg(file(alloc))
+}
+
+/// The program with its commands, as a command line may say them.
+pub(crate) fn program<'a>(alloc: Global) -> Result<Command<'a>, AllocError> {
     let command = Command::new(alloc, "txkv")
         .about(help::ABOUT)
         .version("0.1.0")
@@ -293,43 +399,11 @@ fn program<'a>(alloc: Global) -> Result<Command<'a>, AllocError> {
     let command = with_command(command, simulate(alloc))?;
     let command = with_command(command, explain(alloc))?;
     let command = with_command(command, generate(alloc))?;
+    let command = with_command(command, reduce(alloc))?;
     let command = with_command(command, run(alloc))?;
     let command = with_command(command, check(alloc))?;
     let command = with_command(command, import(alloc))?;
-    let command = command.subcommand(refusals(alloc))?;
+    let command = with_command(command, example(alloc))?;
+    let command = with_command(command, refusals(alloc))?;
     with_command(command, completions(alloc))
-}
-
-// The shell that is named.
-fn shell_of(asked: &ArgMatches<'_>) -> Shell {
-    match asked.get_str("shell") {
-        Some("zsh") => Shell::Zsh,
-        Some("fish") => Shell::Fish,
-        _ => Shell::Bash,
-    }
-}
-
-// A text that is all that is shown, as help is.
-fn text_alone(alloc: Global, text: &str) -> Error {
-    let shown = Command::new(alloc, "txkv").override_help(text);
-    match shown.try_get_matches_from(&["txkv", "--help"]) {
-        Err(error) => error,
-        // Who asks for help gets no matches.
-        Ok(_) => Error::from(AllocError),
-    }
-}
-
-/// The command that the words ask for, the first of which is the program; `Err` also where they ask
-/// for what is only shown: help, the version, the table of refusals, and what completes command
-/// lines in a shell.
-pub fn parse<'a>(alloc: Global, words: &'a [String]) -> Result<ArgMatches<'a>, Error> {
-    let matches = program(alloc)?.try_get_matches_from(words)?;
-    match matches.subcommand() {
-        Some(("refusals", _)) => Err(text_alone(alloc, help::REFUSALS)),
-        Some(("completions", asked)) => {
-            let text = tx_hints::completions(alloc, &program(alloc)?, shell_of(asked))?;
-            Err(text_alone(alloc, text.as_str()))
-        }
-        _ => Ok(matches),
-    }
 }

@@ -1,5 +1,6 @@
 //! What a command line says of a script by chance.
-use crate::command_lines::{asks_for, shown_for};
+use crate::command_lines::asks_for;
+use crate::told::shown_for;
 use std::alloc::Global;
 use std::test::Fail;
 use tx_command::{
@@ -24,6 +25,8 @@ fn job(options: GenerateOptions) -> CommandLine<'static> {
         task: CommandTask::Generate(options),
         cells: CellsKind::Flat,
         has_stats: false,
+        has_comments: false,
+        keep: "",
         file: None,
     }
 }

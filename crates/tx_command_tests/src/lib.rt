@@ -11,3 +11,7 @@ mod sentences;
 mod shown;
 #[cfg(test)]
 mod streams;
+#[cfg(test)]
+mod told;
+#[cfg(test)]
+mod typed;

@@ -2,13 +2,14 @@
 use std::alloc::Global;
 use std::test::Fail;
 use tx_check::check;
-use tx_command::{CommandTask, NotedFaults, reason, why};
+use tx_sentences::{InputKind, Place, reason, why};
 use tx_steps::{Line, Program};
+use tx_streams::NotedFaults;
 use tx_text::{End, Parts};
 use tx_types::Cause;
 
 // Lines of scripts that are faults, and why.
-static SCRIPTS: [(&str, Cause, &str); 39] = [
+static SCRIPTS: [(&str, Cause, &str); 46] = [
     (
         r#"["commit","A","loose"]"#,
         Cause::Form,
@@ -49,6 +50,41 @@ static SCRIPTS: [(&str, Cause, &str); 39] = [
         Cause::Form,
         r#"form: "asinc" is no mode (two-phase, async); did you mean "async"?"#,
     ),
+    (
+        r#"["rollback","A"]"#,
+        Cause::Form,
+        r#"form: "rollback" is no step of txkv simulate; did you mean "abort"?"#,
+    ),
+    (
+        r#"["declare","A","2pc",9]"#,
+        Cause::Form,
+        r#"form: "2pc" is no mode (two-phase, async); did you mean "two-phase"?"#,
+    ),
+    (
+        r#"["draw",3]"#,
+        Cause::Form,
+        "form: it is a step of a trace, which txkv check reads",
+    ),
+    (
+        r#"["gc", 1e3]"#,
+        Cause::Form,
+        "form: 1e3 is no timestamp (a whole number below 2^64)",
+    ),
+    (
+        r#"["gc",18446744073709551616]"#,
+        Cause::Form,
+        "form: 18446744073709551616 is no timestamp (a whole number below 2^64)",
+    ),
+    (
+        "[\"x\u{9b}2J\"]",
+        Cause::Form,
+        r#"form: "x\u009b2J" is no step of txkv simulate"#,
+    ),
+    (
+        r#"{"type":"ok","ops":[]}"#,
+        Cause::Form,
+        "form: the line is no array: transactions of a history are for txkv import",
+    ),
     ("", Cause::Json, "json: the line is empty"),
     (" \t", Cause::Json, "json: the line is empty"),
     (
@@ -59,7 +95,7 @@ static SCRIPTS: [(&str, Cause, &str); 39] = [
     (
         r#"["seed","a","1"]"#,
         Cause::Form,
-        r#"form: "seed" is no step of txkv simulate"#,
+        r#"form: "seed" is no step of txkv simulate; txkv run has it"#,
     ),
     (
         r#"["regions",["m"]]"#,
@@ -180,7 +216,7 @@ static SCRIPTS: [(&str, Cause, &str); 39] = [
     (
         r#"["finish","A"]"#,
         Cause::Order,
-        r#"order: session "A" has no outcome yet: nothing is known of its commit"#,
+        r#"order: session "A" has no outcome yet, since nothing is known of its commit: abort it, or stop it"#,
     ),
     (
         r#"["begin","A"]"#,
@@ -195,114 +231,139 @@ static SCRIPTS: [(&str, Cause, &str); 39] = [
 ];
 
 // Lines of runs and of traces that are faults, and why.
-static OTHERS: [(CommandTask, &str, Cause, &str); 13] = [
+static OTHERS: [(InputKind, &str, Cause, &str); 17] = [
     (
-        CommandTask::Run(1, None),
+        InputKind::Trace,
+        r#"["begin","A"]"#,
+        Cause::Form,
+        "form: it is a step of a script, which txkv simulate reads",
+    ),
+    (
+        InputKind::History,
+        r#"["begin","A"]"#,
+        Cause::Form,
+        "form: the line is no object: steps of scripts are for txkv simulate, those of traces for txkv check",
+    ),
+    (
+        InputKind::History,
+        r#"{"process":[1],"type":"ok","ops":[]}"#,
+        Cause::Form,
+        r#"form: "process" is no string of 1 to 512 bytes and no whole number below 2^64"#,
+    ),
+    (
+        InputKind::History,
+        r#"{"type":"ok","ops":[]}"#,
+        Cause::Form,
+        "form: the transaction does not go with those before it",
+    ),
+    (
+        InputKind::Run,
         r#"["get","A","a","lose"]"#,
         Cause::Form,
         r#"form: "lose" stands behind the last member of the step"#,
     ),
     (
-        CommandTask::Run(1, None),
+        InputKind::Run,
         r#"["tick",1]"#,
         Cause::Form,
-        r#"form: "tick" is no step of txkv run"#,
+        r#"form: "tick" is no step of txkv run; txkv simulate has it"#,
     ),
     (
-        CommandTask::Run(1, None),
+        InputKind::Run,
         r#"["transfer","A","a","a",5,"async"]"#,
         Cause::Form,
         "form: a transfer moves between two different keys",
     ),
     (
-        CommandTask::Run(1, None),
+        InputKind::Run,
         r#"["transfer","A","a","b",0,"async"]"#,
         Cause::Form,
         "form: 0 is no amount (1 to 1000000000000)",
     ),
     (
-        CommandTask::Run(1, None),
+        InputKind::Run,
         r#"["transfr","A","a","b",5,"async"]"#,
         Cause::Form,
         r#"form: "transfr" is no step of txkv run; did you mean "transfer"?"#,
     ),
     (
-        CommandTask::Check,
+        InputKind::Trace,
         r#"["answer",3,"commited",4]"#,
         Cause::Form,
         r#"form: "commited" is no fate (committed, aborted); did you mean "committed"?"#,
     ),
     (
-        CommandTask::Check,
+        InputKind::Trace,
         r#"["regions",["m"]]"#,
         Cause::Form,
         r#"form: "regions" is no step of txkv check"#,
     ),
     (
-        CommandTask::Check,
+        InputKind::Trace,
         r#"["draw"]"#,
         Cause::Form,
         r#"form: "draw" wants behind it: timestamp"#,
     ),
     (
-        CommandTask::Check,
+        InputKind::Trace,
         r#"["declare",3,[["a","put"]]]"#,
         Cause::Form,
         r#"form: [["a","put"]] is no write set ([[key,"put",value],[key,"insert",value],[key,"delete"],[key,"lock"],..])"#,
     ),
     (
-        CommandTask::Check,
+        InputKind::Trace,
         r#"["read",3,"","x"]"#,
         Cause::Form,
         r#"form: "" is no key (a string of 1 to 512 bytes)"#,
     ),
     (
-        CommandTask::Check,
+        InputKind::Trace,
         r#"["scan",3,"a","c",9,[["a"]]]"#,
         Cause::Form,
         r#"form: [["a"]] is no list of rows ([[key,value],..])"#,
     ),
     (
-        CommandTask::Check,
+        InputKind::Trace,
         r#"["answer",3,"committed"]"#,
         Cause::Form,
         r#"form: "committed" wants its timestamp behind it"#,
     ),
     (
-        CommandTask::Check,
+        InputKind::Trace,
         r#"["answer",3,"aborted",4]"#,
         Cause::Form,
         "form: 4 stands behind the last member of the step",
     ),
 ];
 
+// The fourth line of standard input.
+const HERE: Place<'static> = Place {
+    file: None,
+    line: 4,
+};
+
 // The sentence for a line, which is the fourth.
-fn sentence_of(
-    alloc: Global,
-    task: CommandTask,
-    cause: Cause,
-    line: &[u8],
-) -> Result<String, Fail> {
+fn sentence_of(alloc: Global, kind: InputKind, cause: Cause, line: &[u8]) -> Result<String, Fail> {
     let fault = NotedFaults { number: 4, cause };
-    Ok(reason(alloc, task, fault, Some(line), None)?)
+    Ok(reason(alloc, kind, HERE, fault, Some(line), None)?)
 }
 
 // Whether just this is told of line 4.
 fn is_told(
     alloc: Global,
-    task: CommandTask,
+    kind: InputKind,
     cause: Cause,
     line: &str,
     sentence: &str,
 ) -> Result<bool, Fail> {
-    let told = sentence_of(alloc, task, cause, line.as_bytes())?;
+    let told = sentence_of(alloc, kind, cause, line.as_bytes())?;
     Ok(told.strip_prefix("line 4: ") == Some(sentence))
 }
 
 #[test]
 fn sentences_name_line_member_and_rule(rt: HostRuntime) -> Result<(), Fail> {
     for (line, cause, sentence) in SCRIPTS {
-        let is_told = is_told(rt.alloc(), CommandTask::Simulate, cause, line, sentence)?;
+        let is_told = is_told(rt.alloc(), InputKind::Script, cause, line, sentence)?;
         assert!(rt; is_told, "{line}");
     }
     Ok(())
@@ -310,8 +371,8 @@ fn sentences_name_line_member_and_rule(rt: HostRuntime) -> Result<(), Fail> {
 
 #[test]
 fn sentences_of_other_commands_do_as_well(rt: HostRuntime) -> Result<(), Fail> {
-    for (task, line, cause, sentence) in OTHERS {
-        let is_told = is_told(rt.alloc(), task, cause, line, sentence)?;
+    for (kind, line, cause, sentence) in OTHERS {
+        let is_told = is_told(rt.alloc(), kind, cause, line, sentence)?;
         assert!(rt; is_told, "{line}");
     }
     Ok(())
@@ -321,12 +382,12 @@ fn sentences_of_other_commands_do_as_well(rt: HostRuntime) -> Result<(), Fail> {
 fn lines_that_cannot_be_shown_have_a_sentence(rt: HostRuntime) -> Result<(), Fail> {
     let told = sentence_of(
         rt.alloc(),
-        CommandTask::Check,
+        InputKind::Trace,
         Cause::Json,
         b"[\"draw\",\"\xff\"]",
     )?;
     assert_eq!(rt; told.as_str(), "line 4: json: the line is not UTF-8");
-    let told = sentence_of(rt.alloc(), CommandTask::Check, Cause::Long, b"[\"draw\"")?;
+    let told = sentence_of(rt.alloc(), InputKind::Trace, Cause::Long, b"[\"draw\"")?;
     assert_eq!(rt;
         told.as_str(),
         "line 4: long: the line is longer than 524288 bytes"
@@ -335,7 +396,11 @@ fn lines_that_cannot_be_shown_have_a_sentence(rt: HostRuntime) -> Result<(), Fai
         number: 1_000_001,
         cause: Cause::Lines,
     };
-    let told = reason(rt.alloc(), CommandTask::Run(2, None), fault, None, None)?;
+    let place = Place {
+        file: None,
+        line: 1_000_001,
+    };
+    let told = reason(rt.alloc(), InputKind::Run, place, fault, None, None)?;
     assert_eq!(rt;
         told.as_str(),
         "line 1000001: lines: the script has more than 1000000 lines"
@@ -346,7 +411,7 @@ fn lines_that_cannot_be_shown_have_a_sentence(rt: HostRuntime) -> Result<(), Fai
 #[test]
 fn lines_are_not_nested_deeper(rt: HostRuntime) -> Result<(), Fail> {
     let line = "[".repeat(rt.alloc(), 128)?;
-    let told = sentence_of(rt.alloc(), CommandTask::Check, Cause::Json, line.as_bytes())?;
+    let told = sentence_of(rt.alloc(), InputKind::Trace, Cause::Json, line.as_bytes())?;
     assert_eq!(rt;
         told.as_str(),
         "line 4: json: the line is nested deeper than 127"
@@ -358,12 +423,7 @@ fn lines_are_not_nested_deeper(rt: HostRuntime) -> Result<(), Fail> {
 fn long_members_are_cut(rt: HostRuntime) -> Result<(), Fail> {
     let value = "é".repeat(rt.alloc(), 400)?;
     let line = format!(in rt.alloc(); r#"["begin",["{value}"]]"#)?;
-    let told = sentence_of(
-        rt.alloc(),
-        CommandTask::Simulate,
-        Cause::Form,
-        line.as_bytes(),
-    )?;
+    let told = sentence_of(rt.alloc(), InputKind::Script, Cause::Form, line.as_bytes())?;
     let beginning = "é".repeat(rt.alloc(), 29)?;
     let wanted = format!(in rt.alloc();
         r#"line 4: form: ["{beginning}.. is no session's name (a string)"#
@@ -446,12 +506,12 @@ fn is_step(alloc: Global, program: Program, line: &str) -> Result<bool, Fail> {
 }
 
 // Whether something is found to be wrong with a line.
-fn is_faulted(alloc: Global, task: CommandTask, line: &str) -> Result<bool, Fail> {
+fn is_faulted(alloc: Global, kind: InputKind, line: &str) -> Result<bool, Fail> {
     let fault = NotedFaults {
         number: 2,
         cause: Cause::Form,
     };
-    Ok(why(alloc, task, fault, line.as_bytes(), None)?.is_some())
+    Ok(why(alloc, kind, fault, line.as_bytes(), None)?.is_some())
 }
 
 // Where it is known what is so of the session, that alone is said of it.
@@ -463,7 +523,14 @@ fn what_is_known_of_a_session_is_the_reason(rt: HostRuntime) -> Result<(), Fail>
     };
     let line = b"[\"draw\",\"A\"]";
     let state = Some("is aborted");
-    let told = reason(rt.alloc(), CommandTask::Simulate, fault, Some(line), state)?;
+    let told = reason(
+        rt.alloc(),
+        InputKind::Script,
+        HERE,
+        fault,
+        Some(line),
+        state,
+    )?;
     assert_eq!(rt; told.as_str(), "line 4: order: session \"A\" is aborted");
     Ok(())
 }
@@ -479,10 +546,10 @@ fn is_no_step(alloc: Global, line: &str) -> Result<bool, Fail> {
 fn sentences_agree_with_the_readers_of_lines(rt: HostRuntime) -> Result<(), Fail> {
     for line in LINES {
         let simulated = is_step(rt.alloc(), Program::Simulate, line)?;
-        let is_wrong = is_faulted(rt.alloc(), CommandTask::Simulate, line)?;
+        let is_wrong = is_faulted(rt.alloc(), InputKind::Script, line)?;
         assert!(rt; is_wrong != simulated, "simulate: {line}");
         let run = is_step(rt.alloc(), Program::Run, line)?;
-        let is_wrong = is_faulted(rt.alloc(), CommandTask::Run(4, None), line)?;
+        let is_wrong = is_faulted(rt.alloc(), InputKind::Run, line)?;
         assert!(rt; is_wrong != run, "run: {line}");
     }
     Ok(())
@@ -492,7 +559,7 @@ fn sentences_agree_with_the_readers_of_lines(rt: HostRuntime) -> Result<(), Fail
 fn sentences_agree_with_the_checker(rt: HostRuntime) -> Result<(), Fail> {
     for line in TRACES {
         let is_no_step = is_no_step(rt.alloc(), line)?;
-        let is_wrong = is_faulted(rt.alloc(), CommandTask::Check, line)?;
+        let is_wrong = is_faulted(rt.alloc(), InputKind::Trace, line)?;
         assert!(rt; is_wrong == is_no_step, "check: {line}");
     }
     Ok(())

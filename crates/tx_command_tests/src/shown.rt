@@ -54,6 +54,8 @@ fn terminals_say_what_is_shown(rt: HostRuntime) {
             task,
             cells: CellsKind::Flat,
             has_stats: false,
+            has_comments: false,
+            keep: "",
             file,
         };
         assert!(rt; shown_at(job, terminals) == display);

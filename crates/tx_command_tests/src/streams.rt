@@ -5,7 +5,7 @@ use std::fmt::Display;
 use std::io;
 use std::io::{ErrorKind, Read, Write};
 use std::test::Fail;
-use tx_command::{
+use tx_streams::{
     Asking, Counted, Erasing, NotedFaults, Noting, ProgressLine, Recent, Shared, Steps, fault_in,
 };
 use tx_text::{Found, read_line};
@@ -272,20 +272,23 @@ static CHECKED: [&str; 8] = [
     "[3,\"E16\",\"order\"]\n",
 ];
 
-// Whether a writer that takes so many bytes at a time is given just the steps and the fault.
+// Whether a writer that takes so many bytes at a time is given just the steps, and the fault is
+// kept.
 fn tells_steps(alloc: Global, most: usize) -> Result<bool, Fail> {
     let text = Vec::new(alloc);
     let mut sips = Sips { text, most };
-    let mut steps = Steps::new(&mut sips);
+    let mut steps = Steps::new(alloc, &mut sips);
     for line in CHECKED {
         steps.write_all(line.as_bytes())?;
     }
     steps.flush()?;
-    let wanted = "[\"draw\",1]\n[\"begin\",1]\n[2,[\"draw\",2]]\n[3,\"E16\",\"order\"]\n";
-    Ok(sips.text.as_slice() == wanted.as_bytes())
+    let is_kept = steps.fault() == b"[3,\"E16\",\"order\"]\n".as_slice();
+    drop(steps);
+    let wanted = "[\"draw\",1]\n[\"begin\",1]\n[2,[\"draw\",2]]\n";
+    Ok(is_kept && sips.text.as_slice() == wanted.as_bytes())
 }
 
-// However few bytes the writer below takes at a time, it is given the steps and the fault, whole.
+// However few bytes the writer below takes at a time, it is given the steps, whole.
 #[test]
 fn steps_are_told_alone(rt: HostRuntime) -> Result<(), Fail> {
     for most in 1..=24 {

@@ -1,6 +1,8 @@
+pub mod Legal
 pub mod Events
 pub mod AllRuns
 pub mod Consequences
+pub mod AboveDraw
 pub mod CommitOrder
 pub mod ReadOnly
 pub mod Truths

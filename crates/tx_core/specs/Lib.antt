@@ -2,6 +2,7 @@ pub mod Histories
 pub mod Decisions
 pub mod Allowed
 pub mod Worlds
+pub mod Legal
 pub mod Truth
 pub mod EventSteps
 pub mod Shadow

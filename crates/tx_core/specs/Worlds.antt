@@ -1,4 +1,5 @@
--- The histories that may happen.
+-- The histories that may happen: what the protocol asks of each event. The theorem over every run
+-- needs less of it (`IsLegalRun`).
 use Rattle.std.specs.Prelude.{◌≡◌, ◌≢◌, ◌⊎◌, ℕ, ◌<◌, ◌≤◌, true, false, List, [], ◌∷◌, length, Some, None, count_by, IsTrue}
 use Rattle.tx_types.specs.declared.key.Key.{Key}
 use Rattle.tx_plan.specs.declared.body.Body.{Body}

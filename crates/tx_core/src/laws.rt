@@ -55,10 +55,10 @@ pub fn decided_async()
         → greatest (accepted h t) (set_at h t) ≡ Some (greatest_of min (set_at h t)) }
 {}
 
-/// What was decided comes first, whoever was told of it (strong snapshot isolation): who begins
-/// after a commit was decided starts at or above it, and reads what it left or what a later commit
-/// left; and who declares after that commits above it. What a session has answered as committed was
-/// decided before.
+/// What was decided comes first, whoever was told of it (strong snapshot isolation): a number that
+/// is drawn after a commit was decided lies at or above it; who begins there reads what it left or
+/// what a later commit left, and who declares with such a number commits above it. What a session
+/// has answered as committed was decided before.
 pub fn decisions_come_first()
     ensures starts { (bounds : List Key) (h : History) (p u c : ℕ) → IsWorldRun bounds h → DecidedBefore h p u c
         → c ≤ p }

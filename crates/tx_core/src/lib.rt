@@ -13,7 +13,7 @@ mod laws;
 pub use answers::one_answer;
 pub use event::{Declaration, Event, Outcome, Taken, UnknownCause};
 pub use fate::fate_in;
-pub use headline::{every_run, runs_exist, shadow_is_the_run};
+pub use headline::{every_run, runs_exist, shadow_is_the_run, world_runs_are_legal};
 pub use later::{histories_go_on, regions_go_on};
 pub use laws::{
     allowed_stays, decided_async, decisions_come_first, parts_make_the_whole, prewritten_lock,

@@ -8,22 +8,25 @@ use crate::rows::{HeldBox, put_dot_and_label, put_machine, put_reads, put_reason
 use std::alloc::{AllocError, Global};
 use tx_sheet::{Row, RowKind, Sheet, put_number};
 
-// A drawing that is being made: what lies under, and what lies over it.
+// A drawing that is being made: what lies under, the grounds of words, what no ground may hide, and
+// what lies over all.
 #[derive(Drop)]
 struct Drawing {
     alloc: Global,
     layout: Layout,
     under: String,
+    grounds: String,
+    middle: String,
     over: String,
     bars: Bars,
     boxes: Vec<HeldBox>,
 }
 
 // The words over each step.
-fn labels_of(alloc: Global, rows: &[Row]) -> Result<Vec<String>, AllocError> {
+fn labels_of(alloc: Global, sheet: &Sheet) -> Result<Vec<String>, AllocError> {
     let mut labels = Vec::new(alloc);
-    'rows: for row in rows {
-        labels.push(label_of(alloc, row)?)?;
+    'rows: for (place, row) in sheet.rows.iter().enumerate() {
+        labels.push(label_of(alloc, sheet, place, row)?)?;
     }
     Ok(labels)
 }
@@ -38,6 +41,8 @@ impl Drawing {
             alloc,
             layout,
             under,
+            grounds: String::new(alloc),
+            middle: String::new(alloc),
             over: String::new(alloc),
             bars: Bars::new(alloc, sheet.keys.len())?,
             boxes: Vec::new(alloc),
@@ -51,39 +56,45 @@ impl Drawing {
         put_words(&mut self.over, "number", at(6, y).down(4), words.as_str())
     }
 
-    // A step, where its request went and what changed by it.
-    fn put_step(&mut self, y: usize, row: &Row, label: &str) -> Result<(), AllocError> {
-        let Some(column) = self.layout.sender(row.column) else {
+    // A step, where its requests went and what changed by it.
+    fn put_step(
+        &mut self,
+        sheet: &Sheet,
+        y: usize,
+        row: &Row,
+        label: &str,
+    ) -> Result<(), AllocError> {
+        let Some(column) = self.layout.sender(sheet.column_of(row)) else {
             return Ok(());
         };
         let place = at(column.line, y);
-        put_dot_and_label(&mut self.over, row, place, label)?;
+        put_dot_and_label(&mut self.grounds, &mut self.over, row, place, label)?;
         put_sending(
             self.alloc,
-            &mut self.under,
+            &mut self.middle,
             &mut self.over,
             &self.layout,
             &mut self.boxes,
+            column.begins,
             row,
             place,
         )?;
-        put_reads(
-            self.alloc,
-            &mut self.over,
-            &self.layout,
-            y,
-            row.reads.as_slice(),
-        )?;
+        put_reads(self.alloc, &mut self.over, &self.layout, y, row)?;
         self.bars.put_changes(
             self.alloc,
-            &mut self.under,
+            &mut self.middle,
             &mut self.over,
             &self.layout,
             y,
-            row.changes.as_slice(),
+            row,
         )?;
-        let begins = self.layout.reason_begins(row);
-        put_reason(&mut self.over, at(begins, y), row.reason.as_str())
+        let begins = self.layout.reason_begins(sheet, row);
+        put_reason(
+            &mut self.grounds,
+            &mut self.over,
+            at(begins, y),
+            row.reason.as_str(),
+        )
     }
 
     // The machine's steps at a row.
@@ -98,29 +109,44 @@ impl Drawing {
     // A line that is no step.
     fn put_other(&mut self, y: usize, row: &Row, label: &str) -> Result<(), AllocError> {
         put_words(&mut self.over, "reason", at(LEFT, y), label)?;
-        put_reason(&mut self.over, at(LEFT, y), row.reason.as_str())
+        put_reason(
+            &mut self.grounds,
+            &mut self.over,
+            at(LEFT, y),
+            row.reason.as_str(),
+        )
     }
 
     // The row at this place.
-    fn put_row(&mut self, place: usize, row: &Row, label: &str) -> Result<(), AllocError> {
+    fn put_row(
+        &mut self,
+        sheet: &Sheet,
+        place: usize,
+        row: &Row,
+        label: &str,
+    ) -> Result<(), AllocError> {
         let y = row_height(place);
         self.put_number(y, (place as u64).saturating_add(1))?;
         self.put_machine(y, row)?;
         match row.kind {
             RowKind::Regions => Ok(()),
-            RowKind::Step => self.put_step(y, row, label),
+            RowKind::Step => self.put_step(sheet, y, row, label),
             RowKind::Other => self.put_other(y, row, label),
         }
     }
 
     // The whole drawing.
     fn finish(mut self) -> Result<String, AllocError> {
-        self.bars.put_rest(&mut self.under, &self.layout)?;
+        self.bars.put_rest(&mut self.middle, &self.layout)?;
         let Drawing {
             mut under,
+            grounds,
+            middle,
             over,
             ..
         } = self;
+        under.push_str(grounds.as_str())?;
+        under.push_str(middle.as_str())?;
         under.push_str(over.as_str())?;
         under.push_str("</svg>\n")?;
         Ok(under)
@@ -129,10 +155,10 @@ impl Drawing {
 
 /// The drawing of a sheet: a column a session and a key, time down.
 pub fn svg_of(alloc: Global, sheet: &Sheet) -> Result<String, AllocError> {
-    let labels = labels_of(alloc, sheet.rows.as_slice())?;
+    let labels = labels_of(alloc, sheet)?;
     let mut drawing = Drawing::new(alloc, sheet, labels.as_slice())?;
     'rows: for (place, (row, label)) in sheet.rows.iter().zip(labels.as_slice()).enumerate() {
-        drawing.put_row(place, row, label.as_str())?;
+        drawing.put_row(sheet, place, row, label.as_str())?;
     }
     drawing.finish()
 }

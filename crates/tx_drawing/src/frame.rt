@@ -1,8 +1,8 @@
 //! What stands around the rows: the head of the drawing, bands of regions, heads and lines.
-use crate::layout::{Column, HEAD, Layout, TOP};
+use crate::layout::{Column, HEAD, Layout, TOP, row_height};
 use crate::markup::{Area, at, put_box, put_line, put_words};
 use std::alloc::AllocError;
-use tx_sheet::{KeyColumn, Sheet, put_number, shown};
+use tx_sheet::{KeyColumn, Session, Sheet, put_number, shown};
 
 // How each class looks: sizes of words, colours.
 static STYLE: &str = "<style>\
@@ -17,6 +17,7 @@ static STYLE: &str = "<style>\
     .even{fill:#f4f6f9}\
     .odd{fill:#e9edf2}\
     .life{stroke:#bbb}\
+    .ends{stroke:#444;stroke-width:2}\
     .line{stroke:#bbb;stroke-dasharray:2 3}\
     .dot{fill:#444}\
     .sent{stroke:#33598f;fill:none}\
@@ -108,13 +109,51 @@ fn put_column(
     put_line(out, line, at(column.line, TOP), end)
 }
 
+// Appends the line of a session, down to the row by which it ended; and that it ended there.
+fn put_life(out: &mut String, layout: &Layout, session: &Session) -> Result<(), AllocError> {
+    let Some(column) = layout.sessions.get(session.column) else {
+        return Ok(());
+    };
+    let from = at(column.line, row_height(session.begins));
+    let Some(last) = session.ends else {
+        let end = at(column.line, layout.height.saturating_sub(12));
+        return put_line(out, "life", from, end);
+    };
+    let end = at(column.line, row_height(last)).down(9);
+    put_line(out, "life", from, end)?;
+    if session.start.is_none() {
+        return Ok(());
+    }
+    put_line(out, "ends", end.left(8), end.right(8))
+}
+
+// Appends the name of a session at the head of its column, and its line from there on.
+fn put_name(out: &mut String, layout: &Layout, session: &Session) -> Result<(), AllocError> {
+    let Some(column) = layout.sessions.get(session.column) else {
+        return Ok(());
+    };
+    let name = shown(*out.allocator(), session.name.as_str())?;
+    put_words(out, "session", at(column.line, HEAD), name.as_str())?;
+    let from = at(column.line, TOP);
+    put_line(
+        out,
+        "life",
+        from,
+        at(column.line, row_height(session.begins)),
+    )
+}
+
 // Appends the columns of sessions, and of steps of none.
 fn put_sessions(out: &mut String, layout: &Layout, sheet: &Sheet) -> Result<(), AllocError> {
-    let classes = ("session", "life");
-    'sessions: for (session, column) in sheet.sessions.iter().zip(layout.sessions.as_slice()) {
-        let name = shown(*out.allocator(), session.name.as_str())?;
-        put_column(out, layout.height, classes, *column, name.as_str())?;
+    let mut heads = 0usize;
+    'sessions: for session in &sheet.sessions {
+        if session.column == heads {
+            put_name(out, layout, session)?;
+            heads = session.column.saturating_add(1);
+        }
+        put_life(out, layout, session)?;
     }
+    let classes = ("session", "life");
     match layout.system {
         Some(column) => put_column(out, layout.height, classes, column, "(system)"),
         None => Ok(()),

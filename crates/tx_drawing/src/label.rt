@@ -1,6 +1,8 @@
 //! The words of a drawing.
 use std::alloc::{AllocError, Global};
-use tx_sheet::{KeyRead, Kind, Row, SeenLock, SeenRecord, places, put_first, put_stamp};
+use tx_sheet::{
+    KeyRead, Kind, Row, SeenLock, SeenRecord, Sheet, places, put_first, put_stamp, shown,
+};
 
 /// The most places that the words over a step take.
 const MAX_LABEL: usize = 33;
@@ -14,12 +16,54 @@ fn put_cut(out: &mut String, words: &str) -> Result<(), AllocError> {
     out.push('\u{2026}')
 }
 
-/// A step and its reply, the beginning of what is longer.
-pub(crate) fn label_of(alloc: Global, row: &Row) -> Result<String, AllocError> {
-    let mut whole = String::from_str(alloc, row.step.as_str())?;
+// Appends the name of the session that a row begins, where its name does not stand at the head.
+fn put_new_name(
+    out: &mut String,
+    sheet: &Sheet,
+    place: usize,
+    row: &Row,
+) -> Result<(), AllocError> {
+    let Some(session) = row.session else {
+        return Ok(());
+    };
+    match sheet.sessions.get(session) {
+        Some(found) if found.begins == place && !is_head(sheet, session) => {
+            let name = shown(*out.allocator(), found.name.as_str())?;
+            out.push_str(name.as_str())?;
+            out.push_str(": ")
+        }
+        _ => Ok(()),
+    }
+}
+
+/// Whether a session is the first of its column: its name stands at the head.
+pub(crate) fn is_head(sheet: &Sheet, session: usize) -> bool {
+    match sheet.sessions.get(session) {
+        Some(found) => !sheet
+            .sessions
+            .iter()
+            .take(session)
+            .any(|before| before.column == found.column),
+        None => false,
+    }
+}
+
+/// A step and its reply, the beginning of what is longer, but for what is shown of a key.
+pub(crate) fn label_of(
+    alloc: Global,
+    sheet: &Sheet,
+    place: usize,
+    row: &Row,
+) -> Result<String, AllocError> {
+    let mut whole = String::new(alloc);
+    put_new_name(&mut whole, sheet, place, row)?;
+    whole.push_str(row.step.as_str())?;
     if !row.answer.is_empty() {
         whole.push_str(" \u{2192} ")?;
         whole.push_str(row.answer.as_str())?;
+    }
+    if row.step.starts_with("versions ") {
+        return Ok(whole);
     }
     let mut label = String::new(alloc);
     put_cut(&mut label, whole.as_str())?;
@@ -38,10 +82,14 @@ pub(crate) fn machine_words(alloc: Global, row: &Row) -> Result<String, AllocErr
     Ok(words)
 }
 
-/// What a lock will do, whose it is by start, and its minimum.
-pub(crate) fn lock_words(alloc: Global, lock: SeenLock) -> Result<String, AllocError> {
+/// What a lock will do and the value of a put, whose it is by start, and its minimum.
+pub(crate) fn lock_words(alloc: Global, lock: SeenLock, value: &str) -> Result<String, AllocError> {
     let mut words = String::from_str(alloc, lock.kind.word())?;
-    put_stamp(&mut words, " of ", lock.start)?;
+    if !value.is_empty() {
+        words.push(' ')?;
+        words.push_str(value)?;
+    }
+    put_stamp(&mut words, " by ", lock.start)?;
     if lock.minimum > 0 {
         put_stamp(&mut words, ", min ", lock.minimum)?;
     }

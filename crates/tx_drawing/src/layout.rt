@@ -81,21 +81,33 @@ fn key_column(begins: usize, widest: usize) -> Column {
     }
 }
 
-// Whether a row is a step of this session, or of none.
-fn is_in(row: &Row, column: Option<usize>) -> bool {
-    row.kind == RowKind::Step && row.column == column
+// Whether a row is a step in this column of sessions, or of no session.
+fn is_in(sheet: &Sheet, row: &Row, column: Option<usize>) -> bool {
+    row.kind == RowKind::Step && sheet.column_of(row) == column
 }
 
-// The places of the widest words over the steps of a session, or of none; None where it has no
-// steps.
-fn widest_label(rows: &[Row], labels: &[String], column: Option<usize>) -> Option<usize> {
+// The places of the widest words over the steps in a column of sessions, or of no session; None
+// where there are no steps.
+fn widest_label(sheet: &Sheet, labels: &[String], column: Option<usize>) -> Option<usize> {
     let mut widest = None;
-    'rows: for (row, label) in rows.iter().zip(labels) {
-        if is_in(row, column) {
+    'rows: for (row, label) in sheet.rows.iter().zip(labels) {
+        if is_in(sheet, row, column) {
             widest = Some(places(label.as_str()).max(widest.unwrap_or(0)));
         }
     }
     widest
+}
+
+// The places of the widest name of the sessions of a column.
+fn widest_name(alloc: Global, sheet: &Sheet, column: usize) -> Result<usize, AllocError> {
+    let mut widest = 0;
+    'sessions: for session in &sheet.sessions {
+        if session.column == column {
+            let name = shown(alloc, session.name.as_str())?;
+            widest = places(name.as_str()).max(widest);
+        }
+    }
+    Ok(widest)
 }
 
 // The columns of sessions, and where the next column begins.
@@ -106,10 +118,9 @@ fn session_columns(
 ) -> Result<(Vec<Column>, usize), AllocError> {
     let mut columns = Vec::new(alloc);
     let mut begins = LEFT;
-    'sessions: for (place, session) in sheet.sessions.iter().enumerate() {
-        let name = shown(alloc, session.name.as_str())?;
-        let widest = widest_label(sheet.rows.as_slice(), labels, Some(place)).unwrap_or(0);
-        let column = session_column(begins, widest.max(places(name.as_str())));
+    for place in 0..sheet.columns {
+        let widest = widest_label(sheet, labels, Some(place)).unwrap_or(0);
+        let column = session_column(begins, widest.max(widest_name(alloc, sheet, place)?));
         begins = column.ends();
         columns.push(column)?;
     }
@@ -118,7 +129,7 @@ fn session_columns(
 
 // The column of steps of no session, where there are some.
 fn system_column(sheet: &Sheet, labels: &[String], begins: usize) -> Option<Column> {
-    let widest = widest_label(sheet.rows.as_slice(), labels, None)?;
+    let widest = widest_label(sheet, labels, None)?;
     Some(session_column(begins, widest))
 }
 
@@ -146,7 +157,7 @@ fn widen_changes(
 ) -> Result<(), AllocError> {
     'changes: for change in changes {
         if let Some(lock) = change.lock {
-            let words = lock_words(alloc, lock)?;
+            let words = lock_words(alloc, lock, change.value.as_str())?;
             widen(widths, change.key, places(words.as_str()));
         }
         widen_records(alloc, widths, change)?;
@@ -248,7 +259,7 @@ impl Layout {
         Ok(layout)
     }
 
-    /// The column of a session, or of steps of no session.
+    /// This column of sessions, or that of steps of no session.
     pub fn sender(&self, column: Option<usize>) -> Option<Column> {
         match column {
             Some(place) => self.sessions.get(place).copied(),
@@ -257,8 +268,8 @@ impl Layout {
     }
 
     /// Where the reason of a refused step begins.
-    pub fn reason_begins(&self, row: &Row) -> usize {
-        match self.sender(row.column) {
+    pub fn reason_begins(&self, sheet: &Sheet, row: &Row) -> usize {
+        match self.sender(sheet.column_of(row)) {
             Some(column) => column.begins.saturating_add(8),
             None => LEFT,
         }
@@ -269,7 +280,7 @@ impl Layout {
         'rows: for row in &sheet.rows {
             let taken = places(row.reason.as_str()).saturating_mul(SMALL_PLACE);
             let end = self
-                .reason_begins(row)
+                .reason_begins(sheet, row)
                 .saturating_add(taken)
                 .saturating_add(10);
             self.width = self.width.max(end);

@@ -3,7 +3,7 @@ use crate::label::{dropped_words, lock_words, record_words};
 use crate::layout::Layout;
 use crate::markup::{Area, Point, at, put_box, put_mark, put_words};
 use std::alloc::{AllocError, Global};
-use tx_sheet::{Change, Kind, SeenLock, SeenRecord, is_same_lock};
+use tx_sheet::{Change, Kind, Row, SeenLock, SeenRecord, is_same_lock};
 
 // How wide a bar is.
 const BAR_WIDTH: usize = 8;
@@ -34,7 +34,7 @@ fn put_bar(out: &mut String, line: usize, bar: Bar, end: usize) -> Result<(), Al
 
 // Appends words beside a key, below so many others.
 fn put_beside(out: &mut String, mark: Point, above: usize, words: &str) -> Result<(), AllocError> {
-    let place = mark.right(10).down(3).down(above.saturating_mul(11));
+    let place = mark.right(10).down(3).down(above.saturating_mul(10));
     put_words(out, "seen", place, words)
 }
 
@@ -90,40 +90,43 @@ impl Bars {
         }
     }
 
-    // What changed of the lock on a key: whether words stand beside it.
+    // What changed of the lock on a key, with words beside it below so many others: below how many
+    // the next stand.
     fn put_lock(
         &mut self,
         alloc: Global,
         under: &mut String,
         over: &mut String,
         mark: Point,
+        above: usize,
         change: &Change,
     ) -> Result<usize, AllocError> {
         if is_same_lock(change.old_lock, change.lock) {
-            return Ok(0);
+            return Ok(above);
         }
         if let Some(bar) = self.take(change.key) {
             put_bar(under, mark.x, bar, mark.y)?;
         }
         let Some(lock) = change.lock else {
-            return Ok(0);
+            return Ok(above);
         };
         self.set(change.key, mark.y, lock);
-        let words = lock_words(alloc, lock)?;
-        put_beside(over, mark, 0, words.as_str())?;
-        Ok(1)
+        let words = lock_words(alloc, lock, change.value.as_str())?;
+        put_beside(over, mark, above, words.as_str())?;
+        Ok(above.saturating_add(1))
     }
 
-    // What changed of a key, in the row that is so far down.
+    // What changed of a key, in the row that is so far down, with words below so many others.
     fn put_change(
         &mut self,
         alloc: Global,
         under: &mut String,
         over: &mut String,
         mark: Point,
+        above: usize,
         change: &Change,
     ) -> Result<(), AllocError> {
-        let above = self.put_lock(alloc, under, over, mark, change)?;
+        let above = self.put_lock(alloc, under, over, mark, above, change)?;
         match change.came.first() {
             Some(first) => {
                 put_record_mark(over, mark, *first)?;
@@ -137,7 +140,8 @@ impl Bars {
         }
     }
 
-    /// What changed of keys, in the row that is so far down.
+    /// What changed of keys, in the row that is so far down: below its arrow, where that goes on to
+    /// another key.
     pub fn put_changes(
         &mut self,
         alloc: Global,
@@ -145,11 +149,12 @@ impl Bars {
         over: &mut String,
         layout: &Layout,
         y: usize,
-        changes: &[Change],
+        row: &Row,
     ) -> Result<(), AllocError> {
-        'changes: for change in changes {
+        let above = if row.targets.len() > 1 { 1 } else { 0 };
+        'changes: for change in &row.changes {
             if let Some(line) = layout.key_line(change.key) {
-                self.put_change(alloc, under, over, at(line, y), change)?;
+                self.put_change(alloc, under, over, at(line, y), above, change)?;
             }
         }
         Ok(())

@@ -3,17 +3,22 @@ use crate::label::read_words;
 use crate::layout::{Layout, PLACE, SMALL_PLACE};
 use crate::markup::{Area, Point, at, put_arrow, put_box, put_cross, put_dot, put_line, put_words};
 use std::alloc::{AllocError, Global};
-use tx_sheet::{KeyRead, Row, Sending, places};
+use tx_sheet::{Row, Sending, Target, places};
 
-/// A request that is held, and where its box stands.
+/// A request that is held: its name, in which column, and the place below its box.
 #[derive(Drop)]
 pub(crate) struct HeldBox {
     pub name: String,
+    pub column: usize,
     pub place: Point,
 }
 
-/// Appends a step's dot, and over it the words of the step.
+/// How many boxes of a column have lines that stand apart.
+const APART: usize = 7;
+
+/// Appends a step's dot, and over it the words of the step, on a ground of their own.
 pub(crate) fn put_dot_and_label(
+    ground: &mut String,
     out: &mut String,
     row: &Row,
     place: Point,
@@ -25,14 +30,19 @@ pub(crate) fn put_dot_and_label(
         width,
         height: 13,
     };
-    put_box(out, "back", area)?;
+    put_box(ground, "back", area)?;
     put_dot(out, "dot", place, 3)?;
     let class = if row.is_refused() { "refused" } else { "step" };
     put_words(out, class, place.up(6), label)
 }
 
-/// Appends the reason of a refusal under its step.
-pub(crate) fn put_reason(out: &mut String, place: Point, reason: &str) -> Result<(), AllocError> {
+/// Appends the reason of a refusal under its step, on a ground of its own.
+pub(crate) fn put_reason(
+    ground: &mut String,
+    out: &mut String,
+    place: Point,
+    reason: &str,
+) -> Result<(), AllocError> {
     if reason.is_empty() {
         return Ok(());
     }
@@ -43,7 +53,7 @@ pub(crate) fn put_reason(out: &mut String, place: Point, reason: &str) -> Result
             .saturating_add(8),
         height: 11,
     };
-    put_box(out, "back", area)?;
+    put_box(ground, "back", area)?;
     put_words(out, "reason", place.down(13), reason)
 }
 
@@ -64,11 +74,23 @@ fn put_lost(out: &mut String, place: Point) -> Result<(), AllocError> {
     put_words(out, "seen", end.right(8).down(4), "lost")
 }
 
-// Appends a request that is held: the place below the box.
-fn put_held(out: &mut String, place: Point, name: &str) -> Result<Point, AllocError> {
-    let corner = place.right(16).up(3);
+// How many boxes stand in a column.
+fn count_in(boxes: &[HeldBox], column: usize) -> usize {
+    boxes.iter().filter(|held| held.column == column).count()
+}
+
+// Appends a request that is held, behind so many others of its column: the place below the box,
+// from where its line goes down, apart from theirs.
+fn put_held(
+    out: &mut String,
+    place: Point,
+    name: &str,
+    before: usize,
+) -> Result<Point, AllocError> {
     let width = places(name).saturating_mul(SMALL_PLACE).saturating_add(12);
-    put_line(out, "sent", place.right(4), place.right(16))?;
+    let line = place.right((before % APART).saturating_mul(9).saturating_add(20));
+    let corner = at(line.left(width / 2).x.max(place.right(16).x), place.up(3).y);
+    put_line(out, "sent", place.right(4), at(corner.x, place.y))?;
     let area = Area {
         corner,
         width,
@@ -76,44 +98,58 @@ fn put_held(out: &mut String, place: Point, name: &str) -> Result<Point, AllocEr
     };
     put_box(out, "held", area)?;
     put_words(out, "seen", corner.right(6).down(11), name)?;
-    Ok(corner.right(width / 2).down(15))
+    Ok(line.down(12))
 }
 
-// Appends the arrow of a request to a key, and a cross where it met a lock.
-fn put_sent(out: &mut String, row: &Row, from: Point, mark: Point) -> Result<(), AllocError> {
-    let end = mark.left(6);
+// Appends the arrow of a request, twice where it was taken twice.
+fn put_way(out: &mut String, row: &Row, from: Point, end: Point) -> Result<(), AllocError> {
     put_arrow(out, from, end)?;
     if row.sending == Sending::Twice {
         put_arrow(out, from.down(4), end.down(4))?;
     }
-    if row.meets_lock {
+    Ok(())
+}
+
+// Appends the arrow of a request to a key, and a cross where it met a lock.
+fn put_sent(
+    out: &mut String,
+    row: &Row,
+    target: Target,
+    from: Point,
+    mark: Point,
+) -> Result<(), AllocError> {
+    put_way(out, row, from, mark.left(6))?;
+    if target.meets_lock {
         put_cross(out, mark)
     } else {
         Ok(())
     }
 }
 
-// Appends the arrows of a request to its keys.
+// Appends the arrows of a request to its keys; a short one where it went to none of these.
 fn put_arrows(out: &mut String, layout: &Layout, row: &Row, from: Point) -> Result<(), AllocError> {
-    'targets: for key in &row.targets {
-        if let Some(line) = layout.key_line(*key) {
-            put_sent(out, row, from, at(line, from.y))?;
+    if row.goes_beyond && row.targets.is_empty() {
+        return put_way(out, row, from, from.right(24));
+    }
+    'targets: for target in &row.targets {
+        if let Some(line) = layout.key_line(target.key) {
+            put_sent(out, row, *target, from, at(line, from.y))?;
         }
     }
     Ok(())
 }
 
-/// Appends what a step read of keys, in the row that is so far down: below the arrow where that
+/// Appends what regions read of keys, in the row that is so far down: below the arrow where that
 /// goes on to another key.
 pub(crate) fn put_reads(
     alloc: Global,
     out: &mut String,
     layout: &Layout,
     y: usize,
-    reads: &[KeyRead],
+    row: &Row,
 ) -> Result<(), AllocError> {
-    let down = if reads.len() > 1 { 13 } else { 3 };
-    'reads: for read in reads {
+    let down = if row.targets.len() > 1 { 13 } else { 3 };
+    'reads: for read in &row.reads {
         if let Some(line) = layout.key_line(read.key) {
             let mark = at(line, y);
             put_dot(out, "read", mark, 4)?;
@@ -144,7 +180,6 @@ fn box_of(boxes: &[HeldBox], name: &str) -> Option<Point> {
 // Appends the way of a held request that is delivered: where its arrows begin.
 fn put_delivered(
     under: &mut String,
-    over: &mut String,
     boxes: &[HeldBox],
     row: &Row,
     place: Point,
@@ -154,9 +189,6 @@ fn put_delivered(
     };
     let bend = at(from.x, place.y);
     put_line(under, "waits", from, bend)?;
-    if row.targets.is_empty() {
-        put_arrow(over, bend, bend.right(16))?;
-    }
     Ok(bend)
 }
 
@@ -167,18 +199,24 @@ pub(crate) fn put_sending(
     over: &mut String,
     layout: &Layout,
     boxes: &mut Vec<HeldBox>,
+    column: usize,
     row: &Row,
     place: Point,
 ) -> Result<(), AllocError> {
     match row.sending {
         Sending::Lost => put_lost(over, place),
         Sending::Held => {
-            let place = put_held(over, place, row.held.as_str())?;
+            let before = count_in(boxes.as_slice(), column);
+            let place = put_held(over, place, row.held.as_str(), before)?;
             let name = String::from_str(alloc, row.held.as_str())?;
-            Ok(boxes.push(HeldBox { name, place })?)
+            Ok(boxes.push(HeldBox {
+                name,
+                column,
+                place,
+            })?)
         }
         Sending::Delivered => {
-            let from = put_delivered(under, over, boxes.as_slice(), row, place)?;
+            let from = put_delivered(under, boxes.as_slice(), row, place)?;
             put_arrows(over, layout, row, from)
         }
         Sending::ReplyLost => {

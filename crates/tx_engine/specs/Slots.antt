@@ -6,7 +6,9 @@ use Rattle.std.specs.List.{sum_by}
 use Rattle.std.specs.Map.{lookup}
 use Rattle.tx_types.specs.declared.fault.Cause.{Cause}
 use Rattle.tx_types.specs.declared.fault.Cause.TheVariants as cause
+use Rattle.tx_types.specs.declared.fault.Fault.{Fault}
 use Rattle.tx_types.specs.declared.key.Key.{Key}
+use Rattle.tx_cells.specs.declared.copies.KeyVersions.{KeyVersions}
 use Rattle.tx_core.specs.Histories.{History}
 use Rattle.tx_core.specs.declared.event.Declaration.{Declaration}
 use Rattle.tx_core.specs.declared.event.Event.TheVariants.{Declared}
@@ -22,7 +24,7 @@ use Rattle.tx_engine.specs.declared.slots.SessionSlot.{SessionSlot}
 use Rattle.tx_engine.specs.declared.slots.SessionSlot.TheVariants.{Free, Live, Lent}
 use Rattle.tx_reply.specs.declared.reply.ScriptReply.{ScriptReply}
 use Rattle.tx_reply.specs.declared.reply.ScriptReply.TheVariants as replies
-use Rattle.tx_network.specs.Networks.{NetworkParts, network_state, NetworkState, made_by, IsDone, AreNumbered, IsTraced, GoesOnWith, KeptAs, NotesDrawn}
+use Rattle.tx_network.specs.Networks.{NetworkParts, network_state, NetworkState, made_by, IsDone, AreNumbered, IsTraced, GoesOnWith, KeptAs, NotesDrawn, Displays}
 use Rattle.tx_steps.specs.declared.delivery.Delivery.{Delivery}
 use Rattle.tx_steps.specs.declared.step.Step.{Step}
 use Rattle.tx_steps.specs.Steps.{Text}
@@ -147,6 +149,14 @@ pub record Goes (bounds : List Key) (old new : Held) (Exact : Type 0) : Type 0 w
   pub exact : length new.network.newest ≤ length old.network.newest + made → Exact
   pub traced : length new.network.newest ≤ length old.network.newest + made → IsTraced old.network
       → IsTraced new.network
+
+-- The region n showed a key, and nothing else of the engine changed: no event was made, and where
+-- none came, its engine state is as it was.
+pub record Peeks (n : ℕ) (old new : Held) (key : Key) (copied : Result KeyVersions Fault) : Type 0 where
+  pub shown : Displays n old.network new.network key copied
+  pub system_seat : new.system_seat ≡ old.system_seat
+  pub names : new.names ≡ old.names
+  pub slots : new.slots ≡ old.slots
 
 -- ---- steps
 

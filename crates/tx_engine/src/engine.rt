@@ -1,10 +1,12 @@
 //! An engine in one thread: slots with seats and sessions, names that point to slots, a seat for
 //! what no session does, and the network.
 ghost use Rattle.std.specs.Prelude.{◌≡◌, ◌+◌, length, [], Some, None, option_map};
-ghost use Rattle.tx_engine.specs.Slots.{Held, engine_state, Goes, AllSeated, Settled, Turned, TurnedBy};
+ghost use Rattle.tx_engine.specs.Slots.{Held, engine_state, Goes, AllSeated, Settled, Turned, TurnedBy, Peeks};
 ghost use Rattle.tx_engine.specs.Stages.{stage_at};
 ghost use Rattle.tx_engine.specs.Semantics.{edits, in_session, live_at};
 ghost use Rattle.tx_trace.specs.Traces.{Noted, Traces};
+ghost use Rattle.tx_core.specs.Worlds.{route};
+ghost use Rattle.tx_network.specs.Networks.{takings_in};
 ghost use Rattle.tx_steps.specs.Steps.{acted, asked, called, delivered};
 ghost use Rattle.tx_steps.specs.declared.op.Op.TheVariants as ops;
 ghost use Rattle.tx_steps.specs.declared.step.Step.TheVariants as steps;
@@ -16,15 +18,16 @@ use crate::slots::{SessionSlot, enter, first_free, lend, live_slot, slot_at, swa
 use std::alloc::Global;
 use std::collections::BTreeMap;
 use std::marker::Model;
-use tx_cells::Families;
+use tx_cells::{Families, ShownKey};
 use tx_client::Session;
+use tx_core::Body;
 use tx_journal::{JournalId, Seat, Told};
 use tx_network::Network;
 use tx_ops::{SessionStage, reply_to};
 use tx_reply::ScriptReply;
 use tx_steps::{Call, Delivery, Op, Step};
-use tx_trace::Trace;
-use tx_types::{Cause, Key, Ts, is_name};
+use tx_trace::{Taking, Trace};
+use tx_types::{Cause, Fault, Key, Ts, is_name};
 
 /// The engine of scripts in one thread: each step is its turn by `Semantics.antt`.
 pub struct Engine<J: JournalId, F: Families> {
@@ -311,6 +314,35 @@ impl<J: JournalId, F: Families> Engine<J, F> {
             ≡ record self.old { network = record self.old.network { trace = Some t } }) }
     {
         self.direct.network.keep_trace(self.alloc);
+    }
+
+    /// Keeps, from now on, what regions take as well: nothing has happened yet.
+    pub fn keep_takings(&mut self)
+        ensures { (t : Noted) × Traces [] t × (self.new
+            ≡ record self.old { network = record self.old.network { trace = Some t } }) }
+    {
+        self.direct.network.keep_takings(self.alloc);
+    }
+
+    /// What regions took so far, oldest first: none where that is not kept, or no more.
+    pub fn takings(&self) -> Option<&[Taking]>
+        ensures { option_map (λ ts. ts.now) result ≡ takings_in self.now.network.trace }
+    {
+        self.direct.network.takings()
+    }
+
+    /// What the request asks that is held under a name, where one is.
+    pub fn held_body(&self, name: &str) -> Option<&Body>
+        ensures { option_map (λ body. body.now) result ≡ (engine_state self.now).network.held name.now }
+    {
+        self.direct.network.held_body(name)
+    }
+
+    /// What the region of a key keeps of it. No event is made. Memory for that may be refused.
+    pub fn show_key(&mut self, key: &Key) -> Result<ShownKey, Fault>
+        ensures { Peeks (route J.bounds key.now) self.old self.new key.now result }
+    {
+        self.direct.network.show_key(key)
     }
 
     /// How many steps of the machine are kept so far: none where memory for one was refused.

@@ -1,2 +1,0 @@
--- What was written is of a play of the script with lines put in.
-pub mod Explanations

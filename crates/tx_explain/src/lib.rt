@@ -1,6 +1,5 @@
-//! A script's run, shown as people draw it: `explain` plays a script as `simulate` does, with lines
-//! put in that show each key, and writes the picture of the lines and of the replies. That the
-//! lines change nothing is a law of tx_played_laws.
+//! A script's run, shown as people draw it: `explain` plays a script as `simulate` does, and writes
+//! the picture of the film of that play (tx_film).
 #![tactic(auto)]
 
 mod script;

@@ -1,5 +1,6 @@
 -- A text that grows by a line.
-use Rattle.std.proofs.Common.{◌≡◌, ℕ, List, [], ◌∷◌, ◌++◌, refl, sym, ap, subst, ◌∙◌, append_assoc, append-nil}
+use Rattle.std.proofs.Common.{◌≡◌, ℕ, List, [], ◌∷◌, ◌++◌, ◌+◌, length, refl, sym, ap, subst, ◌∙◌, append_assoc, append-nil}
+use Rattle.std.proofs.lemmas.List.{length-append}
 use Rattle.serde_json.specs.Data.{Items}
 use Rattle.tx_types.specs.declared.key.Key.{Key}
 use Rattle.tx_types.specs.declared.limits.TheConstants.{MAX_LIVE_SESSIONS}
@@ -27,6 +28,9 @@ module _ (text line : List ℕ) (begins : BeginsLine text) (plain : NoNewline li
   pub lines_next : lines_of ((text ++ line) ++ 10 ∷ []) ≡ lines_of text ++ line ∷ []
   lines_next = ap lines_of (sym (append-nil next)) ∙ lines_with [] ∙ append-nil (lines_of text ++ line ∷ [])
 
+  pub count_next : length (lines_of ((text ++ line) ++ 10 ∷ [])) ≡ length (lines_of text) + 1
+  count_next = ap length lines_next ∙ length-append (lines_of text) (line ∷ [])
+
   pub begins_next : BeginsLine ((text ++ line) ++ 10 ∷ [])
   begins_next more = lines_with more ∙ ap (λ l. l ++ lines_of more) (sym lines_next)
 
@@ -52,7 +56,7 @@ module _ (bounds : List Key) where
   grown_none p has = record { begins = λ more. refl; done = []; played = has }
 
   pub is_player : (text : List ℕ) (p : PlayerState) → IsGrown bounds text p → IsPlayer bounds p
-  is_player text p g = (lines_of text, g.done, g.played)
+  is_player text p g = g.played.stands
 
   -- what has been played ends well, over the keys that its first line says
   pub ends : (text : List ℕ) (p : PlayerState) → IsGrown bounds text p → IsBegun bounds text

@@ -1,36 +1,36 @@
 //! Who thinks of the steps of a script, and learns the replies to them.
-ghost use Rattle.std.specs.Prelude.{◌<◌};
+ghost use Rattle.std.specs.Prelude.{◌<◌, ◌≤◌};
 
 use crate::dice::Dice;
-use crate::session::{LiveSession, Stage};
-use crate::settings::{MAX_LETTERS, ModeChoice, Settings};
-use crate::text::{put_line, put_regions};
+use crate::last_session::LastSession;
+use crate::lines::tick;
+use crate::play::Play;
+use crate::session::LiveSession;
+use crate::settings::{MAX_LETTERS, Settings};
+use crate::text::put_keys;
 use crate::word::Word;
 use std::alloc::{AllocError, Global};
 use tx_reply::ScriptReply;
 use tx_steps::{Call, Delivery, Op, Step};
-use tx_types::Mode;
-use tx_types::limits::MAX_HELD_REQUESTS;
-
-/// After so many lines in a row that were faults, the next one is a tick, which never is.
-const MAX_MISSES: u32 = 4;
 
 /// Thinks of steps by chance, and by what the replies so far tell.
 #[derive(Drop)]
 pub(crate) struct Author {
-    settings: Settings,
-    dice: Dice,
-    live: Vec<LiveSession>,
+    pub(crate) settings: Settings,
+    pub(crate) dice: Dice,
+    pub(crate) live: Vec<LiveSession>,
     /// Which of the live sessions the last thought was of.
-    turn: usize,
+    pub(crate) turn: usize,
     /// How many sessions, values and held requests were named.
-    sessions: u64,
-    values: u64,
-    held: u64,
+    pub(crate) sessions: u64,
+    pub(crate) values: u64,
+    pub(crate) held: u64,
     /// The last timestamp that was told.
-    last: u64,
-    /// How many lines in a row were faults.
-    misses: u32,
+    pub(crate) last: u64,
+    /// The scene that is being played.
+    pub(crate) play: Option<Play>,
+    /// How far the last session is.
+    pub(crate) last_session: LastSession,
 }
 
 impl Author {
@@ -44,211 +44,62 @@ impl Author {
             values: 0,
             held: 0,
             last: 0,
-            misses: 0,
+            play: None,
+            last_session: LastSession::new(),
         }
     }
 
-    // A letter below this number.
-    fn letter(&mut self, bound: u32) -> Word {
-        let bound = bound.clamp(1, MAX_LETTERS);
-        Word::Key(self.dice.below(bound) as u8)
-    }
-
-    fn key(&mut self) -> Word {
-        self.letter(self.settings.keys)
-    }
-
-    fn value(&mut self) -> Word {
-        self.values = self.values.wrapping_add(1);
-        if self.dice.hits(4) {
-            Word::Long(self.values)
-        } else {
-            Word::Value(self.values)
-        }
-    }
-
-    // A timestamp that was drawn lately, or one not drawn yet.
-    fn near(&mut self) -> u64 {
-        if self.dice.hits(85) {
-            self.last.saturating_sub(u64::from(self.dice.below(8)))
-        } else {
-            self.last.saturating_add(u64::from(self.dice.below(3)))
-        }
-    }
-
-    // Where old versions are collected: below most of the live sessions.
-    fn safe_point(&mut self) -> u64 {
-        self.last.saturating_sub(u64::from(self.dice.below(60)))
-    }
-
-    // The time at which a lock is asked after.
-    fn now(&mut self) -> u64 {
-        match self.dice.below(6) {
-            0 | 1 => 0,
-            2 => self.last,
-            3 => self.last.saturating_add(u64::from(self.dice.below(12))),
-            4 => self.last.saturating_add(100),
-            _ => u64::MAX,
-        }
-    }
-
-    // What becomes of a request.
-    fn delivery(&mut self) -> Delivery<Word> {
-        if !self.dice.hits(self.settings.faults) {
-            return Delivery::Taken;
-        }
-        match self.dice.below(6) {
-            0 => Delivery::Lost,
-            1 => Delivery::Unanswered,
-            2 => Delivery::Repeated,
-            _ if self.held >= MAX_HELD_REQUESTS as u64 => Delivery::Lost,
-            _ => Delivery::Held(Word::Held(self.held.wrapping_add(1))),
-        }
-    }
-
-    fn edit(&mut self) -> Op<Word> {
-        let key = self.key();
-        match self.dice.below(9) {
-            0 => Op::Delete(key),
-            1 => Op::Lock(key),
-            2 | 3 => Op::Insert(key, self.value()),
-            _ => Op::Put(key, self.value()),
-        }
-    }
-
-    fn mode(&mut self) -> Mode {
-        match self.settings.modes {
-            ModeChoice::Only(mode) => mode,
-            ModeChoice::Both if self.dice.hits(50) => Mode::Async,
-            ModeChoice::Both => Mode::TwoPhase,
-        }
-    }
-
-    fn declare(&mut self) -> Op<Word> {
-        let mode = self.mode();
-        let ttl = self.dice.pick(&[0, 1, 3, 5, 10, 10, 50, 50]);
-        let max_commit = if mode == Mode::Async && self.dice.hits(25) {
-            Some(self.last.saturating_add(u64::from(self.dice.below(8))))
-        } else {
-            None
-        };
-        Op::Declare(mode, ttl, max_commit)
-    }
-
-    fn read(&mut self) -> Call<Word> {
-        if self.dice.hits(75) {
-            return Call::Get(self.key());
-        }
-        let limit = self.dice.pick(&[1, 1, 2, 3, 10, 1024]);
-        Call::Scan(self.key(), self.letter(MAX_LETTERS), limit)
-    }
-
-    // What a session sends at this stage once it has declared.
-    fn due(&mut self, stage: Stage) -> Call<Word> {
-        match stage {
-            Stage::Open | Stage::Declared => Call::Prewrite,
-            Stage::Locked | Stage::Drawn | Stage::Decided => Call::Commit,
-            Stage::Refused => Call::Abort,
-        }
-    }
-
-    // A step of a session that has declared nothing.
-    fn open_step(&mut self, session: LiveSession) -> Step<Word> {
-        let name = Word::Session(session.number);
-        match self.dice.below(100) {
-            0..=34 => Step::Send(name, self.read(), self.delivery()),
-            35..=74 => Step::Act(name, self.edit()),
-            75..=97 if session.has_edits => Step::Act(name, self.declare()),
-            75..=97 => Step::Act(name, self.edit()),
-            98 => Step::Act(name, Op::Finish),
-            _ => Step::Act(name, Op::Stop),
-        }
-    }
-
-    // A step of a session that has declared.
-    fn declared_step(&mut self, session: LiveSession) -> Step<Word> {
-        let name = Word::Session(session.number);
-        match self.dice.below(100) {
-            0..=59 if session.stage == Stage::Locked => Step::Act(name, Op::Draw),
-            0..=49 if session.stage == Stage::Decided => Step::Act(name, Op::Finish),
-            0..=77 => Step::Send(name, self.due(session.stage), self.delivery()),
-            78..=85 => Step::Send(name, self.read(), self.delivery()),
-            86..=90 => {
-                let ttl = self.dice.pick(&[0, 5, 20, 100]);
-                Step::Send(name, Call::Heartbeat(ttl), self.delivery())
-            }
-            91..=93 => Step::Send(name, Call::Abort, self.delivery()),
-            94 | 95 => Step::Send(name, Call::Prewrite, self.delivery()),
-            96 | 97 => Step::Act(name, Op::Finish),
-            _ => Step::Act(name, Op::Stop),
-        }
-    }
-
-    // A step of no session.
-    fn world_step(&mut self) -> Step<Word> {
-        match self.dice.below(100) {
-            0..=44 if self.held > 0 => Step::Deliver(self.held_name()),
-            0..=59 => Step::Read(self.key(), self.near()),
-            60..=69 => Step::Versions(self.key()),
-            70..=95 => Step::Tick(self.dice.pick(&[1, 1, 2, 5])),
-            _ => Step::Gc(self.safe_point()),
-        }
-    }
-
-    // The name of a held request: mostly one of the last.
-    fn held_name(&mut self) -> Word {
-        let held = self.held.clamp(1, MAX_HELD_REQUESTS as u64) as u32;
-        let among = if self.dice.hits(75) {
-            held.min(6)
-        } else {
-            held
-        };
-        Word::Held(self.held.saturating_sub(u64::from(self.dice.below(among))))
-    }
-
-    /// Thinks of the next step.
-    pub(crate) fn think(&mut self) -> Step<Word> {
-        let chance = self.dice.below(100);
-        if self.misses >= MAX_MISSES {
-            return Step::Tick(1);
-        }
-        let few = self.live.len() < self.settings.sessions;
-        if self.live.is_empty() || (few && chance < 12) {
-            return Step::Begin(Word::Session(self.sessions.wrapping_add(1)));
-        }
-        if chance < 28 {
-            return self.world_step();
-        }
-        self.turn = self.dice.below(self.live.len().clamp(1, 256) as u32) as usize;
-        let session = match self.live.get(self.turn) {
-            Some(session) => *session,
-            None => LiveSession::new(0),
-        };
-        if session.has_met && self.dice.hits(40) {
-            return Step::Act(Word::Session(session.number), Op::Resolve(self.now()));
-        }
-        match session.stage {
-            Stage::Open => self.open_step(session),
-            _ => self.declared_step(session),
-        }
-    }
-
-    /// Puts the first line into `line`: the keys between the regions, where there are more than one
-    /// region, or the first step, which is given.
-    pub(crate) fn first(&mut self, line: &mut Vec<u8>) -> Result<Option<Step<Word>>, AllocError> {
+    /// Appends the first line: it says the keys between the regions, or is a tick, where there is
+    /// one region.
+    pub(crate) fn put_first(&self, line: &mut Vec<u8>) -> Result<(), AllocError> {
         let regions = self.settings.regions.clamp(1, MAX_LETTERS);
         if regions == 1 {
-            let step = self.think();
-            put_line(line, step)?;
-            return Ok(Some(step));
+            return line.extend_from_slice(tick());
         }
         let letters = self.settings.keys.clamp(regions, MAX_LETTERS);
         let mut keys = Vec::new(line.allocator().clone()?);
         for region in 1..regions {
             keys.push(Word::Key((region * letters / regions) as u8))?;
         }
-        put_regions(line, keys.as_slice())?;
-        Ok(None)
+        put_keys(line, keys.as_slice())
+    }
+
+    /// How many keys there are.
+    pub(crate) fn keys(&self) -> u32
+        ensures { (0 < result) × (result ≤ 26) }
+    {
+        self.settings.keys.clamp(1, MAX_LETTERS)
+    }
+
+    /// The next thought is of the live session of this number, or of none.
+    pub(crate) fn turn_to(&mut self, number: u64) {
+        let at = self
+            .live
+            .iter()
+            .position(|session| session.number == number);
+        self.turn = at.unwrap_or(self.live.len());
+    }
+
+    /// The place of a live session by chance.
+    pub(crate) fn any_turn(&mut self) -> usize {
+        self.dice.below(self.live.len().clamp(1, 256) as u32) as usize
+    }
+
+    /// The start of the live session of this number, or else the last timestamp.
+    pub(crate) fn start_of(&self, number: u64) -> u64 {
+        match self.live.iter().find(|session| session.number == number) {
+            Some(session) => session.start,
+            None => self.last,
+        }
+    }
+
+    /// The start of a live session by chance.
+    pub(crate) fn any_start(&mut self) -> u64 {
+        let turn = self.any_turn();
+        match self.live.get(turn) {
+            Some(session) => session.start,
+            None => self.last,
+        }
     }
 
     // A session is gone.
@@ -273,8 +124,16 @@ impl Author {
         if let (Delivery::Held(_), ScriptReply::Lost) = (delivery, reply) {
             self.held = self.held.saturating_add(1);
         }
+        self.last_session.sent(call, reply);
         if let Some(session) = self.live.get_mut(self.turn) {
             session.sent(call, reply);
+        }
+    }
+
+    /// Sees a reply, which may tell the last timestamp.
+    pub(crate) fn sees(&mut self, reply: &ScriptReply) {
+        if let ScriptReply::Start(at) | ScriptReply::Drawn(at) | ScriptReply::Last(at) = reply {
+            self.last = at.get();
         }
     }
 
@@ -284,29 +143,16 @@ impl Author {
         step: &Step<Word>,
         reply: &ScriptReply,
     ) -> Result<(), AllocError> {
-        self.misses = 0;
-        if let ScriptReply::Start(at) | ScriptReply::Drawn(at) | ScriptReply::Last(at) = reply {
-            self.last = at.get();
-        }
+        self.sees(reply);
         match step {
             Step::Begin(_) => {
                 self.sessions = self.sessions.wrapping_add(1);
-                self.live.push(LiveSession::new(self.sessions))?;
+                self.live.push(LiveSession::new(self.sessions, self.last))?;
             }
             Step::Act(_, op) => self.did(op, reply),
             Step::Send(_, call, delivery) => self.sent(call, delivery, reply),
             _ => {}
         }
         Ok(())
-    }
-
-    /// Learns that the step that it thought of last was a fault.
-    pub(crate) fn miss(&mut self) {
-        self.misses = self.misses.saturating_add(1);
-    }
-
-    /// How many lines the script has.
-    pub(crate) fn steps(&self) -> u64 {
-        self.settings.steps
     }
 }

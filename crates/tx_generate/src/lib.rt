@@ -4,15 +4,21 @@
 //!
 //! It plays the script while it thinks of it: each line is tried on an engine, and the next one is
 //! thought of by whoever knows the replies so far. A line that is a fault is no line of the script.
-//! So the script ends well, by contract, and the same settings give the same script.
+//! So the script ends well, by contract, and the same settings give the same script. Between lines
+//! by chance stand scenes, and at the end a session reads every key.
 #![tactic(auto)]
 
 mod author;
 mod dice;
+mod last_session;
+mod lines;
+mod play;
+mod scene;
 mod script;
 mod session;
 mod settings;
 mod text;
+mod thoughts;
 mod word;
 mod writer;
 

@@ -26,6 +26,8 @@ pub(crate) enum Stage {
 pub(crate) struct LiveSession {
     /// The number in its name.
     pub(crate) number: u64,
+    /// The timestamp at which its transaction began.
+    pub(crate) start: u64,
     pub(crate) stage: Stage,
     /// Whether its buffer has anything.
     pub(crate) has_edits: bool,
@@ -64,9 +66,10 @@ fn after_abort(reply: &ScriptReply) -> Option<Stage> {
 }
 
 impl LiveSession {
-    pub(crate) fn new(number: u64) -> LiveSession {
+    pub(crate) fn new(number: u64, start: u64) -> LiveSession {
         LiveSession {
             number,
+            start,
             stage: Stage::Open,
             has_edits: false,
             is_async: false,

@@ -151,7 +151,7 @@ pub(crate) fn put_line(out: &mut Vec<u8>, step: Step<Word>) -> Result<(), AllocE
 }
 
 /// Appends the line that says the keys between the regions, without its newline.
-pub(crate) fn put_regions(out: &mut Vec<u8>, keys: &[Word]) -> Result<(), AllocError> {
+pub(crate) fn put_keys(out: &mut Vec<u8>, keys: &[Word]) -> Result<(), AllocError> {
     put_head(out, "regions")?;
     out.push(b',')?;
     let mut mark = b'[';

@@ -1,8 +1,9 @@
 //! The texts that a script has: names, keys and values.
 use std::alloc::AllocError;
 use tx_text::put_digits;
+use tx_types::limits::MAX_VALUE_BYTES;
 
-/// How many bytes a long value has: more than a record has room for.
+/// How many bytes a long value has behind its number: more than a record has room for.
 const LONG_BYTES: usize = 300;
 
 /// A name, a key or a value of a script.
@@ -14,9 +15,14 @@ pub(crate) enum Word {
     Held(u64),
     /// A key: a letter.
     Key(u8),
-    /// A short value, and a long one.
+    /// One of more keys than there are letters.
+    Many(u64),
+    /// No bytes: no key.
+    Empty,
+    /// A short value, a long one, and one that is too long.
     Value(u64),
     Long(u64),
+    TooLong(u64),
 }
 
 // The letter of this number.
@@ -30,12 +36,12 @@ fn put_numbered(out: &mut Vec<u8>, letter: u8, number: u64) -> Result<(), AllocE
     put_digits(out, number)
 }
 
-// Appends a long value, which begins with its number.
-fn put_long(out: &mut Vec<u8>, number: u64) -> Result<(), AllocError> {
+// Appends a long value, which begins with its number, with so many bytes behind that.
+fn put_long(out: &mut Vec<u8>, number: u64, more: usize) -> Result<(), AllocError> {
     put_numbered(out, b'l', number)?;
     let len = out.len();
-    if len < usize::MAX - LONG_BYTES {
-        out.resize(len + LONG_BYTES, b'.')?;
+    if let Some(long) = len.checked_add(more) {
+        out.resize(long, b'.')?;
     }
     Ok(())
 }
@@ -48,7 +54,10 @@ pub(crate) fn put_word(out: &mut Vec<u8>, word: Word) -> Result<(), AllocError> 
         Word::Held(number) => put_numbered(out, b'h', number)?,
         Word::Key(number) => out.push(letter(number))?,
         Word::Value(number) => put_numbered(out, b'v', number)?,
-        Word::Long(number) => put_long(out, number)?,
+        Word::Many(number) => put_numbered(out, b'k', number)?,
+        Word::Empty => {}
+        Word::Long(number) => put_long(out, number, LONG_BYTES)?,
+        Word::TooLong(number) => put_long(out, number, MAX_VALUE_BYTES)?,
     }
     out.push(b'"')?;
     Ok(())

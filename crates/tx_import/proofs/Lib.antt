@@ -8,3 +8,4 @@ pub mod Drafted
 pub mod ReadLines
 -- Values with too few or too many members.
 pub mod Arity
+mod Bares

@@ -3,3 +3,4 @@ pub mod Numbers
 pub mod Drafts
 pub mod Histories
 pub mod Turns
+pub mod Recorders

@@ -1,16 +1,20 @@
 //! Histories of any store, as lines of JSON: what they say, and whether it is snapshot isolation.
 #![tactic(auto)]
 
+mod bare;
 mod draft;
 mod line;
 mod members;
 mod name;
 mod names;
 mod reader;
+mod recorder;
 mod said;
 
+pub use bare::bare_of;
 pub use draft::Tables;
 pub use name::Name;
 pub use names::{KeyedValue, Names, Values};
 pub use reader::{History, LineFault, read_history};
+pub use recorder::{Misrecorded, find_misrecorded};
 pub use said::{SaidAct, SaidOp, SaidTransaction};

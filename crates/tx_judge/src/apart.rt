@@ -1,10 +1,10 @@
 //! Two that put into one key do not overlap: so where one is known to start before the other
 //! commits, it commits before the other starts.
 
-use crate::lists::Lists;
 use std::alloc::{AllocError, Global};
 use tx_chains::{Extras, Put, number};
 use tx_order::Edge;
+use tx_web::Lists;
 
 // How many puts of a transaction are looked at.
 const MOST_PUTS: usize = 16;

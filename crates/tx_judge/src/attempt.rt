@@ -1,5 +1,5 @@
 //! What the versions in one order are for the recording.
-ghost use Rattle.std.specs.Prelude.{ℕ, IfOk, IfSome, slice_index};
+ghost use Rattle.std.specs.Prelude.{IfOk, IfSome, slice_index};
 ghost use Rattle.tx_recording.specs.Recordings.{IsRecording};
 ghost use Rattle.tx_views.specs.Views.{AreViews};
 ghost use Rattle.tx_views.specs.Owners.{AreOwners};
@@ -12,7 +12,7 @@ use std::alloc::{AllocError, Global};
 use tx_chains::{Asked, Parts, plan_of, versions_of};
 use tx_history::{Decision, decide};
 use tx_recording::{Orders, Recording};
-use tx_verdict::{Lives, Verdict, Versions, cycle_of, timestamps};
+use tx_verdict::{Lives, Refutation, Verdict, Versions, cycle_of, is_refutation, timestamps};
 use tx_views::{Owner, View};
 
 // What timestamps of versions are for the recording.
@@ -53,13 +53,44 @@ fn no_of(
     requires views { AreViews recording.now views.now }
     requires history { IsRecorded versions.now.recorded }
     requires cycle { IsCycleOf (history_of versions.now.recorded) nodes.now }
-    requires refused { (start commit : ℕ → ℕ) → IsAssignment (history_of versions.now.recorded) start commit → ⊥ }
     ensures { IfOk result (λ found. IfSome found (IsVerdict recording.now orders)) }
 {
     match cycle_of(alloc, recording, owners, views, orders, versions, nodes)? {
         Some(cycle) => Ok(Some(Verdict::No(cycle))),
         None => Ok(None),
     }
+}
+
+/// What a refutation is for the recording, if it is one.
+pub(crate) fn refuted_by(
+    alloc: Global,
+    recording: &Recording,
+    owners: &[Option<Owner>],
+    views: &[View],
+    orders: Orders,
+    versions: &Versions,
+    refutation: Refutation,
+) -> Result<Option<Verdict>, AllocError>
+    requires recording { IsRecording recording.now }
+    requires owners { AreOwners recording.now owners.now }
+    requires views { AreViews recording.now views.now }
+    ensures { IfOk result (λ found. IfSome found (IsVerdict recording.now orders)) }
+{
+    if !versions.recorded.is_history() {
+        return Ok(None);
+    }
+    if !is_refutation(
+        alloc,
+        recording,
+        owners,
+        views,
+        versions,
+        orders,
+        &refutation,
+    )? {
+        return Ok(None);
+    }
+    Ok(Some(Verdict::Refuted(refutation)))
 }
 
 /// What the versions in one order are for the recording, if that is known.

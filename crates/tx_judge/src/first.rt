@@ -1,7 +1,7 @@
 //! Which puts come first of those that nobody knows the place of.
 
 use crate::apart::{add_apart, puts_by_txn};
-use crate::greedy::ranks_of;
+use crate::greedy::order_of;
 use crate::wide::{are_within, wide_edges};
 use std::alloc::{AllocError, Global};
 use tx_chains::{Extras, Plan, Put, first_member, first_put, last_put, number, put_at};
@@ -153,9 +153,10 @@ pub(crate) fn hint_of(
             let by_txn = puts_by_txn(alloc, puts, extras, txns)?;
             add_apart(&mut wide, &by_txn, puts, txns)?;
             let places = places_in(alloc, nodes, &mut wide, places)?;
-            let ranks = ranks_of(alloc, wide.as_slice(), nodes, puts, &by_txn, txns, keys)?;
+            let edges = wide.as_slice();
+            let found = order_of(alloc, edges, nodes, puts, &by_txn, txns, keys, &[])?;
             let mut guesses = Vec::new(alloc);
-            guesses.push(ranks)?;
+            guesses.push(found.ranks)?;
             guesses.push(every_other(alloc, places.as_slice(), 1, txns)?)?;
             guesses.push(every_other(alloc, places.as_slice(), 0, txns)?)?;
             Ok(Hint::Guesses(guesses))

@@ -2,13 +2,17 @@
 //! when the other starts.
 
 use crate::apart::key_at;
-use crate::lists::Lists;
 use std::alloc::{AllocError, Global};
+use std::collections::BinaryHeap;
 use tx_chains::{Put, number, put_at};
 use tx_order::Edge;
+use tx_web::Lists;
 
 // How many of those that wait for a key are looked at when it is free.
 const MOST_WOKEN: usize = 64;
+
+// How many keys for which none waits are passed over in all, where all that may start wait.
+const MOST_PASSED: usize = 0x100_0000;
 
 // A graph, and the puts into keys of which nobody knows the order.
 #[derive(Drop)]
@@ -22,22 +26,55 @@ struct Graph<'a> {
     by_txn: &'a Lists,
 }
 
+// The transactions that may start: the one that was added last comes first, or where there are
+// ranks the one of least rank, and moments of the clock before all.
+#[derive(Drop)]
+struct Starts<'a> {
+    // by transaction, none where the last comes first
+    ranks: &'a [u32],
+    heap: BinaryHeap<u64>,
+    added: u32,
+}
+
+impl Starts<'_> {
+    fn push(&mut self, txn: u32) -> Result<(), AllocError> {
+        self.added = self.added.saturating_add(1);
+        let rank = match self.ranks.get(txn as usize) {
+            Some(rank) => 0xffff_fffe - (*rank).min(0xffff_fffe),
+            None if self.ranks.is_empty() => self.added,
+            None => 0xffff_ffff,
+        };
+        self.heap
+            .push(u64::from(rank) * 0x1_0000_0000 + u64::from(txn))?;
+        Ok(())
+    }
+
+    fn pop(&mut self) -> Option<u32> {
+        let top = self.heap.pop()?;
+        Some((top % 0x1_0000_0000) as u32)
+    }
+}
+
 // What is taken of a graph, a node after all that its edges come from.
 #[derive(Drop)]
-struct Taken {
+struct Taken<'a> {
     // by node: how many edges lead to it from nodes that are not taken
     left: Vec<u32>,
     // what may be taken, but starts
     ready: Vec<u32>,
-    // the transactions that may start
-    starts: Vec<u32>,
+    starts: Starts<'a>,
     // by key: whether one that puts into it has started, and not committed
     held: Vec<bool>,
     // by key: the transactions that wait for it
     waiting: Lists,
+    // the key of which one that waits was forced last
+    forced: usize,
+    // how many keys for which none waits may be passed over
+    tries: usize,
     // by transaction: how many nodes were taken before its commit
     ranks: Vec<usize>,
-    count: usize,
+    // what was taken
+    order: Vec<u32>,
 }
 
 // The edges of each of so many nodes.
@@ -96,17 +133,29 @@ impl Graph<'_> {
     }
 }
 
-impl Taken {
+impl<'a> Taken<'a> {
     // Nothing is taken yet.
-    fn new(alloc: Global, left: Vec<u32>, txns: u32, keys: u32) -> Result<Taken, AllocError> {
+    fn new(
+        alloc: Global,
+        left: Vec<u32>,
+        ranks: &'a [u32],
+        txns: u32,
+        keys: u32,
+    ) -> Result<Taken<'a>, AllocError> {
         Ok(Taken {
             left,
             ready: Vec::new(alloc),
-            starts: Vec::new(alloc),
+            starts: Starts {
+                ranks,
+                heap: BinaryHeap::new(alloc),
+                added: 0,
+            },
             held: vec![in alloc; false; keys as usize]?,
             waiting: Lists::new(alloc, keys as usize, txns as usize)?,
+            forced: 0,
+            tries: MOST_PASSED,
             ranks: vec![in alloc; 0; txns as usize]?,
-            count: 0,
+            order: Vec::new(alloc),
         })
     }
 
@@ -145,7 +194,7 @@ impl Taken {
 
     // Takes a node: passes each of its edges.
     fn leave(&mut self, graph: &Graph<'_>, node: u32) -> Result<(), AllocError> {
-        self.count = self.count.saturating_add(1);
+        self.order.push(node)?;
         let mut at = graph.by_node.first(node as usize);
         for _ in 0..graph.edges.len() {
             let Some(place) = at else {
@@ -201,14 +250,36 @@ impl Taken {
     // Takes a node that is no start.
     fn take(&mut self, graph: &Graph<'_>, node: u32) -> Result<(), AllocError> {
         if let Some(txn) = graph.commit_of(node) {
-            put_at(self.ranks.as_mut_slice(), txn as usize, self.count);
+            let taken = self.order.len();
+            put_at(self.ranks.as_mut_slice(), txn as usize, taken);
             self.hold(graph, txn, false)?;
         }
         self.leave(graph, node)
     }
 
-    // Takes one of the nodes that may be taken, a start only where there is no other. Whether there
-    // was one.
+    // Lets one that waits for a key start all the same, where there is one.
+    fn force(&mut self, graph: &Graph<'_>) -> Result<bool, AllocError> {
+        for _ in 0..self.held.len().min(self.tries) {
+            match self.waiting.pop(self.forced) {
+                Some(txn) => {
+                    self.hold(graph, txn, true)?;
+                    self.leave(graph, number(2 * txn as usize))?;
+                    return Ok(true);
+                }
+                None => {
+                    self.tries = self.tries.saturating_sub(1);
+                    self.forced = self.forced.saturating_add(1);
+                    if self.forced >= self.held.len() {
+                        self.forced = 0;
+                    }
+                }
+            }
+        }
+        Ok(false)
+    }
+
+    // Takes one of the nodes that may be taken, a start only where there is no other, and one that
+    // waits where there is none. Whether there was one.
     fn step(&mut self, graph: &Graph<'_>) -> Result<bool, AllocError> {
         if let Some(node) = self.ready.pop() {
             self.take(graph, node)?;
@@ -218,15 +289,25 @@ impl Taken {
             self.start(graph, txn)?;
             return Ok(true);
         }
-        Ok(false)
+        self.force(graph)
     }
 }
 
-/// By transaction, a number that rises in the order in which they commit, if one after the other is
-/// taken as soon as it may be, and none starts while another one holds one of its keys.
+/// An order of the nodes of a graph.
+#[derive(Drop)]
+pub(crate) struct Ordered {
+    /// By transaction, a number that rises in the order in which they commit.
+    pub(crate) ranks: Vec<usize>,
+    /// The nodes in this order, all where there is no cycle.
+    pub(crate) order: Vec<u32>,
+}
+
+/// The order of the nodes if one after the other is taken as soon as it may be, and none starts
+/// while another one holds one of its keys. Of those that may start the one of least rank does, or
+/// the last where there are no ranks.
 ///
 /// `AllocError` where there was no room.
-pub(crate) fn ranks_of(
+pub(crate) fn order_of(
     alloc: Global,
     edges: &[Edge],
     nodes: u32,
@@ -234,7 +315,8 @@ pub(crate) fn ranks_of(
     by_txn: &Lists,
     txns: u32,
     keys: u32,
-) -> Result<Vec<usize>, AllocError> {
+    starts: &[u32],
+) -> Result<Ordered, AllocError> {
     let graph = Graph {
         txns,
         edges,
@@ -242,12 +324,16 @@ pub(crate) fn ranks_of(
         puts,
         by_txn,
     };
-    let mut taken = Taken::new(alloc, count_edges(alloc, edges, nodes)?, txns, keys)?;
+    let left = count_edges(alloc, edges, nodes)?;
+    let mut taken = Taken::new(alloc, left, starts, txns, keys)?;
     taken.add_first(&graph)?;
     for _ in 0..u64::MAX {
         if !taken.step(&graph)? {
             break;
         }
     }
-    Ok(taken.ranks)
+    Ok(Ordered {
+        ranks: taken.ranks,
+        order: taken.order,
+    })
 }

@@ -6,8 +6,8 @@
 mod apart;
 mod attempt;
 mod first;
+mod found;
 mod greedy;
-mod lists;
 mod search;
 mod undecided;
 mod verdict;

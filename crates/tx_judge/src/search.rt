@@ -5,11 +5,12 @@ ghost use Rattle.tx_views.specs.Views.{AreViews};
 ghost use Rattle.tx_views.specs.Owners.{AreOwners};
 ghost use Rattle.tx_verdict.specs.Verdicts.{IsVerdict};
 
-use crate::attempt::{try_versions, verdict_in};
+use crate::attempt::{refuted_by, try_versions, verdict_in};
 use crate::first::{Hint, hint_of};
+use crate::found::{Follows, follows_from};
 use crate::undecided::open_keys;
 use std::alloc::{AllocError, Global};
-use tx_chains::{Asked, Parts, Put, number, plan_of, versions_of};
+use tx_chains::{Asked, Extras, Parts, Put, number, plan_of, versions_of};
 use tx_recording::{Orders, Recording};
 use tx_verdict::{Lives, Verdict};
 use tx_views::{Owner, View};
@@ -133,6 +134,134 @@ fn verdict_by_hint(
     }
 }
 
+// The orders that the lines tell of, be they asked for or not: what holds in them holds in those
+// that are asked for.
+fn told_orders(recording: &Recording, orders: Orders) -> Orders {
+    let mut told = orders;
+    for txn in 0..recording.transactions.len() {
+        let transaction = recording.transactions[txn];
+        if transaction.process.is_some() {
+            told.sessions = true;
+        }
+        if transaction.ended.is_some() {
+            told.strict = true;
+        }
+    }
+    told
+}
+
+// What the recording is, by orders of puts that follow from what was seen and from these orders.
+fn verdict_by_found(
+    alloc: Global,
+    recording: &Recording,
+    owners: &[Option<Owner>],
+    views: &[View],
+    orders: Orders,
+    lives: &Lives,
+    parts: &Parts,
+    told: Orders,
+    budget: u32,
+) -> Result<Option<Verdict>, AllocError>
+    requires recording { IsRecording recording.now }
+    requires owners { AreOwners recording.now owners.now }
+    requires views { AreViews recording.now views.now }
+    ensures { IfOk result (λ found. IfSome found (IsVerdict recording.now orders)) }
+{
+    let puts = parts.puts.all.as_slice();
+    let turn = in_turn(alloc, puts.len())?;
+    let asked = Asked::First(&[]);
+    let (plan, extras) = plan_of(alloc, recording, views, parts, turn.as_slice(), asked)?;
+    let versions = versions_of(alloc, recording, views, told, lives, puts, &plan)?;
+    let count = views.len();
+    match follows_from(alloc, recording, count, &versions, puts, &extras, budget)? {
+        Follows::Refuted(refutation) => {
+            refuted_by(
+                alloc, recording, owners, views, orders, &versions, refutation,
+            )
+        }
+        Follows::Guesses(guesses) => {
+            let guesses = guesses.as_slice();
+            verdict_found(
+                alloc, recording, owners, views, orders, lives, parts, guesses,
+            )
+        }
+        Follows::Nothing => Ok(None),
+    }
+}
+
+// The orders of which to look: those that the lines tell of, and those that are asked for.
+fn verdict_by_orders(
+    alloc: Global,
+    recording: &Recording,
+    owners: &[Option<Owner>],
+    views: &[View],
+    orders: Orders,
+    lives: &Lives,
+    parts: &Parts,
+    budget: u32,
+) -> Result<Option<Verdict>, AllocError>
+    requires recording { IsRecording recording.now }
+    requires owners { AreOwners recording.now owners.now }
+    requires views { AreViews recording.now views.now }
+    ensures { IfOk result (λ found. IfSome found (IsVerdict recording.now orders)) }
+{
+    let told = told_orders(recording, orders);
+    let found = verdict_by_found(
+        alloc, recording, owners, views, orders, lives, parts, told, budget,
+    )?;
+    if found.is_some() || told == orders {
+        return Ok(found);
+    }
+    verdict_by_found(
+        alloc, recording, owners, views, orders, lives, parts, orders, budget,
+    )
+}
+
+// The verdict where none was found.
+fn undecided(
+    alloc: Global,
+    recording: &Recording,
+    puts: &[Put],
+    extras: &Extras,
+    orders: Orders,
+) -> Result<Verdict, AllocError>
+    requires recording { IsRecording recording.now }
+    ensures { IfOk result (IsVerdict recording.now orders) }
+{
+    let keys = open_keys(alloc, recording, puts, extras)?;
+    if keys.is_empty() {
+        return Ok(Verdict::Unknown);
+    }
+    Ok(Verdict::Open(keys))
+}
+
+// What the recording is, if it is decided by what is known of the order of its puts, else by orders
+// that are found.
+fn verdict_sought(
+    alloc: Global,
+    recording: &Recording,
+    owners: &[Option<Owner>],
+    views: &[View],
+    orders: Orders,
+    lives: &Lives,
+    parts: &Parts,
+    hint: Hint,
+    budget: u32,
+) -> Result<Option<Verdict>, AllocError>
+    requires recording { IsRecording recording.now }
+    requires owners { AreOwners recording.now owners.now }
+    requires views { AreViews recording.now views.now }
+    ensures { IfOk result (λ found. IfSome found (IsVerdict recording.now orders)) }
+{
+    let found = verdict_by_hint(alloc, recording, owners, views, orders, lives, parts, hint)?;
+    if found.is_some() {
+        return Ok(found);
+    }
+    verdict_by_orders(
+        alloc, recording, owners, views, orders, lives, parts, budget,
+    )
+}
+
 /// What the recording is, if the order of its puts is known, or one is found.
 pub(crate) fn judge_parts(
     alloc: Global,
@@ -142,6 +271,7 @@ pub(crate) fn judge_parts(
     orders: Orders,
     lives: &Lives,
     parts: &Parts,
+    budget: u32,
 ) -> Result<Verdict, AllocError>
     requires recording { IsRecording recording.now }
     requires owners { AreOwners recording.now owners.now }
@@ -158,9 +288,11 @@ pub(crate) fn judge_parts(
     if let Some(verdict) = found {
         return Ok(verdict);
     }
-    let found = verdict_by_hint(alloc, recording, owners, views, orders, lives, parts, hint)?;
+    let found = verdict_sought(
+        alloc, recording, owners, views, orders, lives, parts, hint, budget,
+    )?;
     match found {
         Some(verdict) => Ok(verdict),
-        None => Ok(Verdict::Open(open_keys(alloc, recording, puts, &extras)?)),
+        None => undecided(alloc, recording, puts, &extras, orders),
     }
 }

@@ -72,6 +72,7 @@ fn judge_views(
     owners: &[Option<Owner>],
     views: &[View],
     orders: Orders,
+    budget: u32,
 ) -> Result<Verdict, AllocError>
     requires recording { IsRecording recording.now }
     requires owners { AreOwners recording.now owners.now }
@@ -100,7 +101,9 @@ fn judge_views(
         follows,
         longest,
     };
-    judge_parts(alloc, recording, owners, views, orders, &lives, &parts)
+    judge_parts(
+        alloc, recording, owners, views, orders, &lives, &parts, budget,
+    )
 }
 
 // What the recording is, by what its reads say.
@@ -110,6 +113,7 @@ fn judge_viewed(
     owners: &[Option<Owner>],
     viewed: Viewed,
     orders: Orders,
+    budget: u32,
 ) -> Result<Verdict, AllocError>
     requires recording { IsRecording recording.now }
     requires owners { AreOwners recording.now owners.now }
@@ -117,7 +121,9 @@ fn judge_viewed(
     ensures { IfOk result (IsVerdict recording.now orders) }
 {
     match viewed {
-        Viewed::Views(views) => judge_views(alloc, recording, owners, views.as_slice(), orders),
+        Viewed::Views(views) => {
+            judge_views(alloc, recording, owners, views.as_slice(), orders, budget)
+        }
         Viewed::Internal(txn, place) => Ok(Verdict::Fact(internal(recording, txn, place))),
     }
 }
@@ -128,6 +134,7 @@ fn judge_owned(
     recording: &Recording,
     owned: Owned,
     orders: Orders,
+    budget: u32,
 ) -> Result<Verdict, AllocError>
     requires recording { IsRecording recording.now }
     requires owned { IsOwned recording.now owned }
@@ -136,7 +143,7 @@ fn judge_owned(
     match owned {
         Owned::Once(table) => {
             let viewed = views(alloc, recording)?;
-            judge_viewed(alloc, recording, table.as_slice(), viewed, orders)
+            judge_viewed(alloc, recording, table.as_slice(), viewed, orders, budget)
         }
         Owned::Twice(twice) => {
             Ok(Verdict::Twice(twice.first.txn, twice.second.txn, twice.value))
@@ -146,12 +153,18 @@ fn judge_owned(
 
 /// Whether a recording is snapshot isolation, in the orders that are asked for.
 ///
-/// Where the order of two puts into a key is not known, and none is found, it is open. `AllocError`
-/// where there was no room to find out.
-pub fn judge(alloc: Global, recording: &Recording, orders: Orders) -> Result<Verdict, AllocError>
+/// Where the order of two puts into a key is not known, it is looked for; a search learns from at
+/// most `budget` cycles that it meets, and where it has spent them the verdict is open.
+/// `AllocError` where there was no room to find out.
+pub fn judge(
+    alloc: Global,
+    recording: &Recording,
+    orders: Orders,
+    budget: u32,
+) -> Result<Verdict, AllocError>
     requires { IsRecording recording.now }
     ensures { IfOk result (IsVerdict recording.now orders) }
 {
     let owned = owners(alloc, recording)?;
-    judge_owned(alloc, recording, owned, orders)
+    judge_owned(alloc, recording, owned, orders, budget)
 }

@@ -1,4 +1,5 @@
 -- A draw after a look is a draw.
+mod Collections
 mod Draws
 mod KeyOrder
 mod UpdateResults

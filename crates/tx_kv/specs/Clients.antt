@@ -1,8 +1,9 @@
 -- What contracts see of a client, and what it tells of an update.
-use Rattle.std.specs.Prelude.{◌≡◌, ◌⊎◌, ◌≤◌, ℕ, List, [], Option, Some, None, Result, Ok, Err}
+use Rattle.std.specs.Prelude.{◌≡◌, ◌≢◌, ◌⊎◌, ◌≤◌, ℕ, List, [], Option, Some, None, Result, Ok, Err}
 use Rattle.tx_types.specs.declared.key.Key.{Key}
 use Rattle.tx_core.specs.declared.event.Outcome.{Outcome}
 use Rattle.tx_core.specs.declared.event.Outcome.TheVariants.{Committed, ReadOnly}
+use Rattle.tx_core.specs.declared.event.Outcome.TheVariants as outcome
 use Rattle.tx_core.specs.declared.event.Event.TheVariants as event
 use Rattle.tx_journal.specs.Known.{known}
 use Rattle.tx_transaction.specs.declared.state.Terms.{Terms}
@@ -14,8 +15,9 @@ use Rattle.tx_simple.specs.declared.ended.Seats.{Seats}
 use Rattle.tx_simple.specs.declared.ended.Ended.{Ended}
 use Rattle.tx_simple.specs.declared.ended.Unended.{Unended}
 use Rattle.tx_simple.specs.declared.ended.Unended.TheVariants as unended
-use Rattle.tx_simple.specs.Updates.{IsWithoutEffect}
-use Rattle.tx_simple.specs.Endings.{EndsOver, IsUnended}
+use Rattle.tx_simple.specs.Updates.{IsWithoutEffect, Wrote}
+use Rattle.tx_simple.specs.declared.stops.Stop.{Stop}
+use Rattle.tx_simple.specs.Endings.{EndsOver, IsLastTry, IsUnended}
 use Rattle.tx_kv.specs.declared.updated.Updated.{Updated}
 use Rattle.tx_kv.specs.declared.updated.NotUpdated.{NotUpdated}
 use Rattle.tx_kv.specs.declared.updated.NotUpdated.TheVariants.{Own, Stopped, Unknown, Spent}
@@ -38,15 +40,30 @@ WentWell (Committed c) stop = Unit {0}
 WentWell ReadOnly None = Unit {0}
 WentWell o stop = ⊥
 
--- What is told of how an update ended: its start, its outcome and what the work answered, where it
--- went well; else, where it was without effect, why; and else that it is not known.
+-- its fate is not known
+abbrev pub IsNotKnown : Outcome → Type 0
+IsNotKnown (outcome.Unknown why) = Unit {0}
+IsNotKnown o = ⊥
+
+-- where it is committed, the work has answered
+abbrev pub HasValue : {J O E : Type 0} → Ended J O E → Type 0
+HasValue e = (c : ℕ) → e.outcome ≡ Committed c → e.value ≢ None
+
+-- when it was committed, if it was
+abbrev pub commit_of : Outcome → Option ℕ
+commit_of (Committed c) = Some c
+commit_of o = None
+
+-- What is told of how an update ended: its start, its commit, how many tries came to nothing before
+-- it, and what the work answered, where it went well; else, where it was without effect, why; and
+-- that it is not known where `finish` answered that.
 abbrev pub TellsEnd : {J O E : Type 0} → Ended J O E → Result (Updated O) (NotUpdated E) → Type 0
-TellsEnd e (Ok u) = (u.start ≡ e.start) × (u.outcome ≡ e.outcome) × (Some u.value ≡ e.value)
-    × WentWell e.outcome e.stop
+TellsEnd e (Ok u) = (u.start ≡ e.start) × (u.commit ≡ commit_of e.outcome) × (u.retries ≡ e.retries)
+    × (Some u.value ≡ e.value) × WentWell e.outcome e.stop
 TellsEnd e (Err (Own own)) = IsWithoutEffect e.outcome × (e.stop ≡ Some (failure.Own own))
 TellsEnd e (Err (Stopped stop)) = IsWithoutEffect e.outcome
     × ((e.stop ≡ Some (failure.Stopped stop)) ⊎ (e.stop ≡ None))
-TellsEnd e (Err (Unknown start)) = (start ≡ e.start) × (IsWithoutEffect e.outcome → ⊥)
+TellsEnd e (Err (Unknown start)) = (start ≡ e.start) × IsNotKnown e.outcome
 TellsEnd e (Err Spent) = ⊥
 
 -- What is told where there is no outcome: that the ticks are spent, or that what becomes of the
@@ -57,12 +74,25 @@ TellsNoEnd bounds (unended.Open session resolves stop) (Err (Unknown start)) new
     × Records bounds session.seat (event.Stopped session.seat.seat) new.begins × (new.resolves ≡ resolves)
 TellsNoEnd bounds u r new = ⊥
 
-module _ {J W O E : Type 0} (does : W → Entries → Result O (Failure E) → Entries → W → Type 0) (bounds : List Key) where
+module _ {J W O E : Type 0} (does : W → Entries → Result O (Failure E) → Entries → W → Type 0)
+    (stops_at : W → ℕ → Stop → Type 0) (bounds : List Key) where
+  -- where it is told that it went well, the work answered so, and what it left entered is what was
+  -- declared
+  abbrev pub WroteAll : (terms : Terms) (old : Seats J) (before : W) (n : ℕ) (e : Ended J O E) (after_it : W)
+      → EndsOver does bounds terms old before n e after_it → Result (Updated O) (NotUpdated E) → Type 0
+  WroteAll terms old before n e after_it over (Ok u) = (over.works.answered ≡ Ok u.value)
+      × Wrote bounds terms over.begun.state.start over.works.entered over.works.before over.ends.session.seat
+  WroteAll terms old before n e after_it over (Err why) = Unit {0}
+
   -- An update of a client is an update over its seats, under its terms, with at most so many tries
-  -- in vain; it tells how that ended, and has the seats that were handed back.
+  -- in vain, and no fewer where its work says that it may go on; it tells how that ended, of what
+  -- was written where it went well, and has the seats that were handed back.
   abbrev pub Updates : ClientState J → W → Result (Updated O) (NotUpdated E) → ClientState J → W → Type 0
-  Updates old before r new after_it = (n : ℕ) × (n ≤ old.again) × (new.terms ≡ old.terms) × (new.again ≡ old.again)
-      × (((e : Ended J O E) × EndsOver does bounds old.terms old.seats before n e after_it × TellsEnd e r
-      × (new.seats ≡ e.seats))
-      ⊎ ((u : Unended J E) × IsUnended does bounds old.terms old.seats before n u after_it
+  Updates old before r new after_it = (new.terms ≡ old.terms) × (new.again ≡ old.again)
+      × (((e : Ended J O E) × (e.retries ≤ old.again)
+      × (over : EndsOver does bounds old.terms old.seats before e.retries e after_it)
+      × IsLastTry stops_at old.again e.retries e after_it × TellsEnd e r
+      × WroteAll old.terms old.seats before e.retries e after_it over r × (new.seats ≡ e.seats))
+      ⊎ ((u : Unended J E) × (n : ℕ) × (n ≤ old.again)
+      × IsUnended does bounds old.terms old.seats before n u after_it
       × TellsNoEnd bounds u r new.seats))

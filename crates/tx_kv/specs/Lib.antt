@@ -1,4 +1,5 @@
 pub mod Bounds
 pub mod Clients
+pub mod Collections
 pub mod UpdateResults
 pub mod Views

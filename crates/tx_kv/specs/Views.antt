@@ -18,8 +18,10 @@ abbrev pub SeesRange : History → ℕ → Option Key → Option Key → List Ke
 SeesRange h at from to rows =
     AreRowsOf (is_in_range from to) (λ k found. Sees (table_of (shadow h)).row k at found) rows
 
--- why a read of a view at a timestamp stops: what a read of a transaction does, or its timestamp
--- lies above the last number that a region had loaded, as where it was not drawn yet
+-- why a read of a view at a timestamp stops: what a read of a transaction does, but that no reply
+-- is lost; or its timestamp lies above the last number that a region had loaded, as where it was
+-- not drawn yet
 abbrev pub IsViewStop : ℕ → Stop → Type 0
 IsViewStop at (stop.Refused (fault.FutureTimestamp last)) = last < at
+IsViewStop at stop.Lost = ⊥
 IsViewStop at s = IsReadStop s

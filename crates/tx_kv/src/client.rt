@@ -1,8 +1,9 @@
 //! A client of a store.
-ghost use Rattle.std.specs.Prelude.{◌≡◌};
+ghost use Rattle.std.specs.Prelude.{◌≡◌, ◌<◌};
 ghost use Rattle.tx_kv.specs.Clients.{Updates};
 
 use crate::live::Live;
+use crate::stats::Tally;
 use crate::updated::{NotUpdated, Updated, told_of};
 use std::alloc::Global;
 use std::marker::Model;
@@ -28,22 +29,27 @@ pub struct Client<'a, J: JournalId, R: Wait> {
     pub(crate) alloc: Global,
     pub(crate) store: &'a Store<J, FlatCells>,
     pub(crate) live: &'a Live,
+    pub(crate) tally: &'a Tally,
     pub(crate) number: usize,
     /// They are there between two calls.
     pub(crate) seats: Option<Seats<J>>,
     terms: Terms,
     again: u32,
+    /// After so many updates the next one collects first; never where it is 0.
+    pub(crate) every: u32,
+    /// How many updates there were since.
+    pub(crate) since: u32,
 }
 
 impl<'a, J: JournalId, R: Wait> Model for Client<'a, J, R> {
-    ghost use Rattle.std.specs.Prelude.{is_some, true, ◌≡◌};
+    ghost use Rattle.std.specs.Prelude.{is_some, true, ◌≡◌, ◌<◌};
     ghost use Rattle.tx_kv.specs.Clients.{ClientState, seats_of};
 
     ghost Value = { ClientState J };
 
     ghost view = { λ c. record { seats = seats_of c.seats; terms = c.terms; again = c.again } };
 
-    ghost invariant = { λ c. is_some c.seats ≡ true };
+    ghost invariant = { λ c. (is_some c.seats ≡ true) × (c.number < 1024) };
 }
 
 impl<'a, J: JournalId, R: Wait> Client<'a, J, R> {
@@ -52,17 +58,20 @@ impl<'a, J: JournalId, R: Wait> Client<'a, J, R> {
         rt: &'a R,
         alloc: Global,
         store: &'a Store<J, FlatCells>,
-        live: &'a Live,
+        shared: (&'a Live, &'a Tally),
         number: usize,
         seats: Seats<J>,
     ) -> Client<'a, J, R>
+        requires number { number < 1024 }
         ensures { result.seats ≡ seats }
     {
+        let (live, tally) = shared;
         Client {
             rt,
             alloc,
             store,
             live,
+            tally,
             number,
             seats: Some(seats),
             terms: Terms {
@@ -71,17 +80,27 @@ impl<'a, J: JournalId, R: Wait> Client<'a, J, R> {
                 max_commit: None,
             },
             again: AGAIN,
+            every: 0,
+            since: 0,
         }
     }
 
-    /// Which of the clients it is.
-    pub fn number(&self) -> usize {
+    /// Which of the clients it is: below 1,024. Those that run have the numbers from 0 on, in
+    /// order, and the one that begins and ends has the next.
+    pub fn number(&self) -> usize
+        ensures few { result < 1024 }
+    {
         self.number
     }
 
     /// Where it takes memory.
     pub fn alloc(&self) -> Global {
         self.alloc
+    }
+
+    /// What the program runs by: for a clock, or to print, where the program asks that of it.
+    pub fn rt(&self) -> &'a R {
+        self.rt
     }
 
     /// It reads at this timestamp or above until it leaves.
@@ -118,13 +137,30 @@ impl<'a, J: JournalId, R: Wait> Client<'a, J, R> {
     ///
     /// ```
     /// let updated = client.update(&mut Put(byte)).ok()?;
-    /// match updated.outcome {
-    ///     Outcome::Committed(_) => Some(updated.value),
-    ///     _ => None,
-    /// }
+    /// updated.commit.map(|_| updated.value)
     /// ```
     pub fn update<W: Work>(&mut self, work: &mut W) -> Result<Updated<W::Out>, NotUpdated<W::Err>>
-        ensures { Updates W.does J.bounds self.old work.old result self.new work.new }
+        ensures { Updates W.does W.stops_at J.bounds self.old work.old result self.new work.new }
+    {
+        self.collect_if_due();
+        let told = self.update_now(work);
+        self.count(&told);
+        told
+    }
+
+    // Counts an update.
+    fn count<O, E>(&self, told: &Result<Updated<O>, NotUpdated<E>>) {
+        match told {
+            Ok(updated) => self
+                .tally
+                .updated(updated.commit.is_some(), updated.retries),
+            Err(_) => self.tally.refused(),
+        }
+    }
+
+    // Does a work in a transaction, and commits that.
+    fn update_now<W: Work>(&mut self, work: &mut W) -> Result<Updated<W::Out>, NotUpdated<W::Err>>
+        ensures { Updates W.does W.stops_at J.bounds self.old work.old result self.new work.new }
     {
         let Some(mut seats) = self.seats.take() else {
             unreachable!()

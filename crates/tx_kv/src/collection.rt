@@ -1,7 +1,8 @@
 //! The collection of what no read can find any more.
-ghost use Rattle.std.specs.Prelude.{◌≡◌, ◌≤◌, IfOk};
+ghost use Rattle.std.specs.Prelude.{◌≡◌, ◌≤◌, IfOk, IfErr};
 ghost use Rattle.tx_journal.specs.Senders.{IsSender, LosesNothing};
 ghost use Rattle.tx_reader.specs.Readers.{OnlySees};
+ghost use Rattle.tx_kv.specs.Collections.{HasCollected, IsCollectFault};
 
 use crate::client::Client;
 use crate::live::Live;
@@ -31,6 +32,8 @@ fn collect_by<J: JournalId, S: Sender<Request<J>, Reply<J>>>(
     requires way { IsSender J.bounds S.fits S.sends S.keys_between }
     requires lossless { LosesNothing S.sends }
     ensures kept { IfOk result (λ collected. collected.safe ≤ keep) }
+    ensures done { IfOk result (λ done. HasCollected J.bounds seat.new.events done.safe done.dropped) }
+    ensures err { IfErr result (IsCollectFault seat.new.events) }
     ensures seat { OnlySees seat.old seat.new }
 {
     let now = seat.last();
@@ -40,6 +43,34 @@ fn collect_by<J: JournalId, S: Sender<Request<J>, Reply<J>>>(
 }
 
 impl<'a, J: JournalId, R: Wait> Client<'a, J, R> {
+    /// It is to collect by itself, before the next update after each so many: all that nobody reads
+    /// any more. Never where it is 0, as at first. What a collection is refused by is not told: it
+    /// is made again after as many updates more.
+    ///
+    /// ```
+    /// client.collect_every(2);
+    /// ```
+    pub fn collect_every(&mut self, updates: u32)
+        ensures { self.new ≡ self.old }
+    {
+        self.every = updates;
+        self.since = 0;
+    }
+
+    // One update more: collects where that is due.
+    pub(crate) fn collect_if_due(&mut self)
+        ensures begins { self.new.seats.begins ≡ self.old.seats.begins }
+        ensures resolves { OnlySees self.old.seats.resolves self.new.seats.resolves }
+        ensures terms { (self.new.terms ≡ self.old.terms) × (self.new.again ≡ self.old.again) }
+    {
+        if self.every == 0 || self.since < self.every {
+            self.since = self.since.saturating_add(1);
+            return;
+        }
+        self.since = 1;
+        drop(self.collect(Ts::new(u64::MAX)));
+    }
+
     /// Drops what no read at `keep` or above finds, and no client that reads or writes by now: the
     /// safe point is the least of `keep`, of the last timestamp that was drawn, and of those at
     /// which the clients still read. First it resolves the locks of transactions that started below
@@ -52,6 +83,9 @@ impl<'a, J: JournalId, R: Wait> Client<'a, J, R> {
     /// ```
     pub fn collect(&mut self, keep: Ts) -> Result<Collected, Fault>
         ensures kept { IfOk result (λ collected. collected.safe ≤ keep) }
+        ensures done { IfOk result
+            (λ done. HasCollected J.bounds self.new.seats.resolves.events done.safe done.dropped) }
+        ensures err { IfErr result (IsCollectFault self.new.seats.resolves.events) }
         ensures begins { self.new.seats.begins ≡ self.old.seats.begins }
         ensures resolves { OnlySees self.old.seats.resolves self.new.seats.resolves }
         ensures terms { (self.new.terms ≡ self.old.terms) × (self.new.again ≡ self.old.again) }
@@ -67,6 +101,9 @@ impl<'a, J: JournalId, R: Wait> Client<'a, J, R> {
         };
         let mut wire = Wire::new(self.rt, self.store);
         let collected = collect_by(self.live, keep, &mut resolves, &mut wire);
+        if let Ok(done) = &collected {
+            self.tally.collected(done.dropped.records);
+        }
         self.seats = Some(Seats { begins, resolves });
         collected
     }

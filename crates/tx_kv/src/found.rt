@@ -1,5 +1,6 @@
 //! What a read at a timestamp found.
-ghost use Rattle.std.specs.Prelude.{ℕ, List, IfOk, IfErr};
+ghost use Rattle.std.specs.Prelude.{◌≡◌, ℕ, List, IfOk, IfErr};
+ghost use Rattle.tx_transaction.specs.declared.state.Miss.TheVariants.{Fault as Short};
 ghost use Rattle.tx_types.specs.declared.key.Key.{Key};
 ghost use Rattle.tx_machine.specs.Machine.{Sees, table_of};
 ghost use Rattle.tx_core.specs.Histories.{History};
@@ -17,7 +18,8 @@ use tx_types::{KeyValues, Value};
 pub(crate) fn found_in(answered: Result<Answer, Miss>) -> Result<Option<Value>, Stop>
     ensures finds { IfOk result (λ found. (h : History) (at : ℕ) (key : Key) → IfOk answered (ReadsAt h at key)
         → Sees (table_of (shadow h)).row key at found) }
-    ensures err { IfErr result (λ s. (at : ℕ) → IfOk answered (IsKeyAnswer at) → IsViewStop at s) }
+    ensures err { IfErr result (λ s. (at : ℕ) → IfOk answered (IsKeyAnswer at) → IfErr answered (λ m. m ≡ Short)
+        → IsViewStop at s) }
 {
     match answered? {
         Answer::Found(value) => Ok(Some(value)),
@@ -30,7 +32,8 @@ pub(crate) fn found_in(answered: Result<Answer, Miss>) -> Result<Option<Value>, 
 pub(crate) fn rows_in(answered: Result<Answer, Miss>) -> Result<KeyValues, Stop>
     ensures finds { IfOk result (λ rows. (bounds : List Key) (h : History) (at : ℕ) (from to : Key) (limit : ℕ)
         → IfOk answered (ScansAt bounds h at from to limit) → ScansAt bounds h at from to limit (Rows rows)) }
-    ensures err { IfErr result (λ s. (at : ℕ) → IfOk answered (IsPartAnswer at) → IsViewStop at s) }
+    ensures err { IfErr result (λ s. (at : ℕ) → IfOk answered (IsPartAnswer at) → IfErr answered (λ m. m ≡ Short)
+        → IsViewStop at s) }
 {
     match answered? {
         Answer::Rows(rows) => Ok(rows),

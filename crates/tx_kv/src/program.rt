@@ -1,14 +1,15 @@
 //! A program over a store of its own.
-ghost use Rattle.std.specs.Prelude.{◌≡◌, ◌+◌, All, length, vec_len};
+ghost use Rattle.std.specs.Prelude.{◌≡◌, ◌+◌, ◌<◌, All, IfOk, length, vec_len};
 ghost use Rattle.tx_cells.specs.Contents.{nothing_held};
 ghost use Rattle.tx_flat.specs.Flats.{flat_content};
 
 use crate::client::Client;
 use crate::live::Live;
+use crate::stats::Tally;
 use crate::store::{journal, store};
 use crate::unopened::Unopened;
 use std::alloc::Global;
-use std::marker::Brand;
+use std::marker::{Brand, Model};
 use std::sync::Wait;
 use std::thread::{Threads, map_vec};
 use tx_flat::FlatCells;
@@ -16,6 +17,7 @@ use tx_journal::{JournalId, Opened};
 use tx_simple::Seats;
 use tx_store::Store;
 use tx_types::Fault;
+use tx_types::limits::MAX_SEATS;
 
 /// What a program does with the clients of a store. The store's journal has its name, `J`, in the
 /// type of each client, so that none is taken for another's.
@@ -60,10 +62,31 @@ struct Job<J: JournalId> {
     seats: Seats<J>,
 }
 
+impl<J: JournalId> Model for Job<J> {
+    ghost use Rattle.std.specs.Prelude.{ℕ, ◌<◌};
+
+    ghost Value = { ℕ };
+
+    ghost view = { λ job. job.number };
+
+    ghost invariant = { λ job. job.number < 1024 };
+}
+
+// The number of a client.
+fn numbered(number: usize) -> Result<usize, Unopened>
+    ensures { IfOk result (λ n. (n ≡ number) × (n < 1024)) }
+{
+    if number >= MAX_SEATS {
+        return Err(Unopened::TooMany);
+    }
+    Ok(number)
+}
+
 // The clients to be run, in order.
-fn jobs<J: JournalId>(alloc: Global, pairs: Vec<Seats<J>>) -> Result<Vec<Job<J>>, Fault> {
+fn jobs<J: JournalId>(alloc: Global, pairs: Vec<Seats<J>>) -> Result<Vec<Job<J>>, Unopened> {
     let mut jobs = Vec::new(alloc);
-    for (number, seats) in pairs.into_iter().enumerate() {
+    for (place, seats) in pairs.into_iter().enumerate() {
+        let number = numbered(place)?;
         jobs.push(Job { number, seats })?;
     }
     Ok(jobs)
@@ -74,12 +97,12 @@ fn run_one<J: JournalId, R: Wait, P: Program<R>>(
     rt: &R,
     alloc: Global,
     store: &Store<J, FlatCells>,
-    live: &Live,
+    shared: (&Live, &Tally),
     program: &P,
     job: Job<J>,
 ) -> P::Out {
     let Job { number, seats } = job;
-    let mut client = Client::new(rt, alloc, store, live, number, seats);
+    let mut client = Client::new(rt, alloc, store, shared, number, seats);
     program.run(&mut client)
 }
 
@@ -88,14 +111,14 @@ fn run_each<J: JournalId + Send + Sync, R: Threads + Wait + Sync, P: Program<R>>
     rt: &R,
     alloc: Global,
     store: &Store<J, FlatCells>,
-    live: &Live,
+    shared: (&Live, &Tally),
     program: &P,
     jobs: Vec<Job<J>>,
 ) -> Result<Vec<P::Out>, Fault> {
     Ok(map_vec(
         rt,
         jobs,
-        &|job| run_one(rt, alloc, store, live, program, job),
+        &|job| run_one(rt, alloc, store, shared, program, job),
     )?)
 }
 
@@ -116,10 +139,13 @@ fn run_over<J: JournalId + Send + Sync, R: Threads + Wait + Sync, P: Program<R>>
         return Err(Unopened::TooMany);
     };
     let jobs = jobs(alloc, pairs)?;
-    let live = Live::new(alloc, jobs.len().saturating_add(1))?;
-    let mut client = Client::new(rt, alloc, &store, &live, jobs.len(), first);
+    let last = numbered(jobs.len())?;
+    let live = Live::new(alloc, last + 1)?;
+    let tally = Tally::new();
+    let shared = (&live, &tally);
+    let mut client = Client::new(rt, alloc, &store, shared, last, first);
     program.begin(&mut client);
-    let outs = run_each(rt, alloc, &store, &live, &program, jobs)?;
+    let outs = run_each(rt, alloc, &store, shared, &program, jobs)?;
     let answer = program.end(&mut client, outs);
     drop(client);
     Ok(answer)
@@ -131,7 +157,7 @@ fn run_over<J: JournalId + Send + Sync, R: Threads + Wait + Sync, P: Program<R>>
 /// bytes.
 ///
 /// ```
-/// let first = with_store(&rt, rt.alloc(), &[b"m"], 2, Greet);
+/// let first = with_store(&rt, rt.alloc(), &[b"m"], 2, Greet)?;
 /// ```
 pub fn with_store<R: Threads + Wait + Sync, P: Program<R>>(
     rt: &R,

@@ -1,7 +1,7 @@
 //! The rows of a range at a timestamp, page by page, each of one region.
 ghost use Rattle.std.specs.Prelude.{◌≡◌, IfOk, IfErr, IsTrue, Some, None};
 ghost use Rattle.tx_types.specs.Keys.{is_between, is_scanned, key_le, key_lt};
-ghost use Rattle.tx_journal.specs.Senders.{IsSender};
+ghost use Rattle.tx_journal.specs.Senders.{IsSender, LosesNothing};
 ghost use Rattle.tx_reader.specs.Readers.{OnlySees};
 ghost use Rattle.tx_laws.specs.Rows.{AreRowsOf};
 ghost use Rattle.tx_simple.specs.Reads.{SeesOn};
@@ -15,24 +15,27 @@ use tx_simple::{KeyRange, Stop, add_last, add_rows, greatest, split_page};
 use tx_types::limits::MAX_SCAN_ROWS;
 use tx_types::{Fault, Key, KeyValue, KeyValues};
 
-// The first rows of a range that lie in the region of its first key, and up to where that looked.
-fn page<J: JournalId, S: Sender<Request<J>, Reply<J>>>(
+/// The first rows, so many at most, of a range that lie in the region of its first key, and up to
+/// where that looked.
+pub(crate) fn page<J: JournalId, S: Sender<Request<J>, Reply<J>>>(
     reader: &mut Reader<J>,
     from: &Key,
     to: &Key,
+    limit: u32,
     sender: &mut S,
 ) -> Result<(KeyValues, Key), Stop>
     requires way { IsSender J.bounds S.fits S.sends S.keys_between }
+    requires lossless { LosesNothing S.sends }
     ensures at { reader.new.at ≡ reader.old.at }
     ensures seat { OnlySees reader.old.seat reader.new.seat }
     ensures upto { IfOk result (λ r. IsTrue (key_le r.1 to.now)) }
     ensures some { IfOk result (λ r. IsTrue (key_lt from.now to.now) → IsTrue (key_lt from.now r.1)) }
-    ensures finds { IfOk result (λ r. AreRowsOf (is_scanned from.now r.1 1024 r.0)
+    ensures finds { IfOk result (λ r. AreRowsOf (is_scanned from.now r.1 limit r.0)
         (SeesOn J.bounds reader.new.seat.events reader.old.at) r.0) }
     ensures err { IfErr result (IsViewStop reader.old.at) }
 {
     let end = end_of_part(sender.bounds(), from, to).clone()?;
-    let answered = reader.scan(from, &end, MAX_SCAN_ROWS, sender);
+    let answered = reader.scan(from, &end, limit, sender);
     // For proofs: what the seat has seen is a world run.
     reader.know_run();
     let rows = rows_in(answered)?;
@@ -48,6 +51,7 @@ fn pages<J: JournalId, S: Sender<Request<J>, Reply<J>>>(
     sender: &mut S,
 ) -> Result<Vec<KeyValue>, Stop>
     requires way { IsSender J.bounds S.fits S.sends S.keys_between }
+    requires lossless { LosesNothing S.sends }
     ensures at { reader.new.at ≡ reader.old.at }
     ensures seat { OnlySees reader.old.seat reader.new.seat }
     ensures finds { IfOk result (λ rows. AreRowsOf (is_between from.now to.now)
@@ -60,8 +64,8 @@ fn pages<J: JournalId, S: Sender<Request<J>, Reply<J>>>(
         if next >= *to {
             return Ok(rows);
         }
-        let part = page(reader, &next, to, sender)?;
-        let (more, upto) = split_page(part.0, part.1);
+        let part = page(reader, &next, to, MAX_SCAN_ROWS, sender)?;
+        let (more, upto) = split_page(part.0, MAX_SCAN_ROWS, part.1);
         add_rows(&mut rows, more)?;
         next = upto;
     }
@@ -75,17 +79,18 @@ fn rows_upto<J: JournalId, S: Sender<Request<J>, Reply<J>>>(
     from: &Key,
     to: &Key,
     sender: &mut S,
-) -> Result<KeyValues, Stop>
+) -> Result<Vec<KeyValue>, Stop>
     requires way { IsSender J.bounds S.fits S.sends S.keys_between }
+    requires lossless { LosesNothing S.sends }
     ensures at { reader.new.at ≡ reader.old.at }
     ensures seat { OnlySees reader.old.seat reader.new.seat }
     ensures finds { IfOk result
-        (λ rows. SeesRange reader.new.seat.events reader.old.at (Some from.now) (Some to.now) rows) }
+        (λ rows. SeesRange reader.new.seat.events reader.old.at (Some from.now) (Some to.now) rows.items) }
     ensures err { IfErr result (IsViewStop reader.old.at) }
 {
     let rows = pages(alloc, reader, from, to, sender)?;
     reader.know_run();
-    Ok(KeyValues::from_vec(rows))
+    Ok(rows)
 }
 
 // The rows from a key on: those up to the greatest key, and its own.
@@ -94,26 +99,25 @@ fn rows_from<J: JournalId, S: Sender<Request<J>, Reply<J>>>(
     reader: &mut Reader<J>,
     from: &Key,
     sender: &mut S,
-) -> Result<KeyValues, Stop>
+) -> Result<Vec<KeyValue>, Stop>
     requires way { IsSender J.bounds S.fits S.sends S.keys_between }
+    requires lossless { LosesNothing S.sends }
     ensures at { reader.new.at ≡ reader.old.at }
     ensures seat { OnlySees reader.old.seat reader.new.seat }
     ensures finds { IfOk result
-        (λ rows. SeesRange reader.new.seat.events reader.old.at (Some from.now) None rows) }
+        (λ rows. SeesRange reader.new.seat.events reader.old.at (Some from.now) None rows.items) }
     ensures err { IfErr result (IsViewStop reader.old.at) }
 {
     let top = greatest(alloc)?;
     let mut rows = pages(alloc, reader, from, &top, sender)?;
     if top < *from {
-        let none = KeyValues::from_vec(rows);
-        return Ok(none);
+        return Ok(rows);
     }
     let answered = reader.get(&top, sender);
     reader.know_run();
     let found = found_in(answered)?;
     add_last(&mut rows, top, found)?;
-    let all = KeyValues::from_vec(rows);
-    Ok(all)
+    Ok(rows)
 }
 
 /// The rows of a range.
@@ -122,12 +126,13 @@ pub(crate) fn rows_of<J: JournalId, S: Sender<Request<J>, Reply<J>>>(
     reader: &mut Reader<J>,
     range: &KeyRange,
     sender: &mut S,
-) -> Result<KeyValues, Stop>
+) -> Result<Vec<KeyValue>, Stop>
     requires way { IsSender J.bounds S.fits S.sends S.keys_between }
+    requires lossless { LosesNothing S.sends }
     ensures at { reader.new.at ≡ reader.old.at }
     ensures seat { OnlySees reader.old.seat reader.new.seat }
     ensures finds { IfOk result
-        (λ rows. SeesRange reader.new.seat.events reader.old.at (Some range.now.from) range.now.to rows) }
+        (λ rows. SeesRange reader.new.seat.events reader.old.at (Some range.now.from) range.now.to rows.items) }
     ensures err { IfErr result (IsViewStop reader.old.at) }
 {
     match &range.to {

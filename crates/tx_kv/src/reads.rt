@@ -4,17 +4,19 @@ ghost use Rattle.tx_machine.specs.Machine.{Sees, table_of};
 ghost use Rattle.tx_core.specs.Shadow.{shadow};
 ghost use Rattle.tx_journal.specs.Known.{HasDrawn};
 ghost use Rattle.tx_reader.specs.Readers.{OnlySees};
+ghost use Rattle.tx_simple.specs.Ranges.{IsRestOf, end_of_page};
 ghost use Rattle.tx_kv.specs.Views.{IsViewStop, SeesRange};
 
 use crate::client::Client;
 use crate::found::found_in;
+use crate::pages::page_of;
 use crate::ranges::rows_of;
 use std::sync::Wait;
 use tx_journal::JournalId;
 use tx_reader::Reader;
-use tx_simple::{KeyRange, Seats, Stop};
+use tx_simple::{KeyRange, Page, Seats, Stop};
 use tx_store::Wire;
-use tx_types::{Fault, Key, KeyValues, Ts, Value};
+use tx_types::{Fault, Key, KeyValue, Ts, Value};
 
 impl<'a, J: JournalId, R: Wait> Client<'a, J, R> {
     /// A timestamp that is drawn for reads: what was committed before is seen there, and what is
@@ -26,6 +28,7 @@ impl<'a, J: JournalId, R: Wait> Client<'a, J, R> {
     pub fn timestamp(&mut self) -> Result<Ts, Fault>
         ensures drawn { IfOk result (λ at. HasDrawn J.bounds self.old.seats.resolves.seat
             self.old.seats.resolves.events 1 at self.new.seats.resolves.events) }
+        ensures err { IfErr result (λ e. e ≡ Fault.OracleSpent) }
         ensures begins { self.new.seats.begins ≡ self.old.seats.begins }
         ensures terms { (self.new.terms ≡ self.old.terms) × (self.new.again ≡ self.old.again) }
     {
@@ -38,6 +41,7 @@ impl<'a, J: JournalId, R: Wait> Client<'a, J, R> {
     pub(crate) fn draw_entered(&mut self) -> Result<Ts, Fault>
         ensures drawn { IfOk result (λ at. HasDrawn J.bounds self.old.seats.resolves.seat
             self.old.seats.resolves.events 1 at self.new.seats.resolves.events) }
+        ensures err { IfErr result (λ e. e ≡ Fault.OracleSpent) }
         ensures begins { self.new.seats.begins ≡ self.old.seats.begins }
         ensures terms { (self.new.terms ≡ self.old.terms) × (self.new.again ≡ self.old.again) }
     {
@@ -75,10 +79,31 @@ impl<'a, J: JournalId, R: Wait> Client<'a, J, R> {
         found_in(answered)
     }
 
+    /// The first rows of a range at a timestamp, so many at most, and what is left of it.
+    pub(crate) fn page_at(&mut self, at: Ts, range: KeyRange, limit: u32) -> Result<Page, Stop>
+        ensures finds { IfOk result (λ page. SeesRange self.new.seats.resolves.events at (Some range.from)
+            (end_of_page range page.rest) page.rows.items) }
+        ensures rest { IfOk result (λ page. IsRestOf range page.rest) }
+        ensures err { IfErr result (IsViewStop at) }
+        ensures begins { self.new.seats.begins ≡ self.old.seats.begins }
+        ensures resolves { OnlySees self.old.seats.resolves self.new.seats.resolves }
+        ensures terms { (self.new.terms ≡ self.old.terms) × (self.new.again ≡ self.old.again) }
+    {
+        let Some(Seats { begins, resolves }) = self.seats.take() else {
+            unreachable!()
+        };
+        let mut wire = Wire::new(self.rt, self.store);
+        let mut reader = Reader::new(self.alloc, resolves, at);
+        let page = page_of(self.alloc, &mut reader, range, limit, &mut wire);
+        let resolves = reader.into_seat();
+        self.seats = Some(Seats { begins, resolves });
+        page
+    }
+
     /// The rows of a range at a timestamp.
-    pub(crate) fn rows_at(&mut self, at: Ts, range: &KeyRange) -> Result<KeyValues, Stop>
+    pub(crate) fn rows_at(&mut self, at: Ts, range: &KeyRange) -> Result<Vec<KeyValue>, Stop>
         ensures finds { IfOk result
-            (λ rows. SeesRange self.new.seats.resolves.events at (Some range.now.from) range.now.to rows) }
+            (λ rows. SeesRange self.new.seats.resolves.events at (Some range.now.from) range.now.to rows.items) }
         ensures err { IfErr result (IsViewStop at) }
         ensures begins { self.new.seats.begins ≡ self.old.seats.begins }
         ensures resolves { OnlySees self.old.seats.resolves self.new.seats.resolves }

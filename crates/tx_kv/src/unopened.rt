@@ -1,4 +1,5 @@
 //! Why a store is not opened.
+use std::alloc::AllocFailed;
 use thiserror::Error;
 use tx_types::Fault;
 
@@ -14,6 +15,12 @@ pub enum Unopened {
     /// E12, E13: memory was refused, or a key between the regions is no key.
     #[error("{0}")]
     Refused(Fault),
+}
+
+impl<T: Drop> From<AllocFailed<T>> for Unopened {
+    fn from(_: AllocFailed<T>) -> Unopened {
+        Unopened::Refused(Fault::OutOfMemory)
+    }
 }
 
 impl From<Fault> for Unopened {

@@ -1,8 +1,9 @@
 //! What is told of an update.
 ghost use Rattle.std.specs.Prelude.{◌≡◌, IfOk, IfErr};
-ghost use Rattle.tx_kv.specs.Clients.{TellsEnd, TellsNoEnd};
+ghost use Rattle.tx_kv.specs.Clients.{HasValue, TellsEnd, TellsNoEnd};
 ghost use Rattle.tx_kv.specs.UpdateResults.{told_stop, told_commit, told_reads, told_end};
 
+use thiserror::Error;
 use tx_core::Outcome;
 use tx_journal::JournalId;
 use tx_simple::{Ended, Failure, Seats, Stop, Unended};
@@ -13,23 +14,29 @@ use tx_types::Ts;
 pub struct Updated<O> {
     /// The start timestamp of its transaction, at which it read.
     pub start: Ts,
-    /// When it was committed, or that it wrote nothing.
-    pub outcome: Outcome,
+    /// Its commit timestamp; none where it wrote nothing.
+    pub commit: Option<Ts>,
+    /// How many tries before it came to nothing.
+    pub retries: u32,
     /// What the work answered.
     pub value: O,
 }
 
 /// Why an update did not go well.
-#[derive(Debug, Drop)]
+#[derive(Debug, Drop, Error)]
 pub enum NotUpdated<E> {
     /// The work refused, for a reason of its own. Nothing is written.
+    #[error("the work refused: nothing is written")]
     Own(E),
     /// The transaction was stopped. Nothing is written.
+    #[error("{0}: nothing is written")]
     Stopped(Stop),
     /// What becomes of the transaction that began at this timestamp is not known: a reply or memory
     /// is missing.
+    #[error("what becomes of the transaction that started at {0} is not known")]
     Unknown(Ts),
     /// The ticks of the client are spent: no transaction began.
+    #[error("the ticks of this client are spent: no transaction began")]
     Spent,
 }
 
@@ -43,7 +50,7 @@ fn stopped<E>(stop: Option<Failure<E>>) -> NotUpdated<E>
     match stop {
         Some(Failure::Own(own)) => NotUpdated::Own(own),
         Some(Failure::Stopped(stop)) => NotUpdated::Stopped(stop),
-        None => NotUpdated::Stopped(Stop::Conflict),
+        None => NotUpdated::Stopped(Stop::RolledBack),
     }
 }
 
@@ -51,14 +58,16 @@ fn stopped<E>(stop: Option<Failure<E>>) -> NotUpdated<E>
 fn by_commit<O: Drop, E: Drop>(
     start: Ts,
     at: Ts,
+    retries: u32,
     value: Option<O>,
 ) -> Result<Updated<O>, NotUpdated<E>>
-    ensures { result ≡ told_commit start at value }
+    ensures { result ≡ told_commit start at retries value }
 {
     match value {
         Some(value) => Ok(Updated {
             start,
-            outcome: Outcome::Committed(at),
+            commit: Some(at),
+            retries,
             value,
         }),
         None => Err(NotUpdated::Unknown(start)),
@@ -68,15 +77,17 @@ fn by_commit<O: Drop, E: Drop>(
 // What is told of a transaction that wrote nothing.
 fn by_reads<O: Drop, E: Drop>(
     start: Ts,
+    retries: u32,
     value: Option<O>,
     stop: Option<Failure<E>>,
 ) -> Result<Updated<O>, NotUpdated<E>>
-    ensures { result ≡ told_reads start value stop }
+    ensures { result ≡ told_reads start retries value stop }
 {
     match (value, stop) {
         (Some(value), None) => Ok(Updated {
             start,
-            outcome: Outcome::ReadOnly,
+            commit: None,
+            retries,
             value,
         }),
         (_, stop) => Err(stopped(stop)),
@@ -87,14 +98,15 @@ fn by_reads<O: Drop, E: Drop>(
 fn by_outcome<O: Drop, E: Drop>(
     start: Ts,
     outcome: Outcome,
+    retries: u32,
     value: Option<O>,
     stop: Option<Failure<E>>,
 ) -> Result<Updated<O>, NotUpdated<E>>
-    ensures { result ≡ told_end start outcome value stop }
+    ensures { result ≡ told_end start outcome retries value stop }
 {
     match outcome {
-        Outcome::Committed(at) => by_commit(start, at, value),
-        Outcome::ReadOnly => by_reads(start, value, stop),
+        Outcome::Committed(at) => by_commit(start, at, retries, value),
+        Outcome::ReadOnly => by_reads(start, retries, value, stop),
         Outcome::Aborted => Err(stopped(stop)),
         Outcome::Unknown(_) => Err(NotUpdated::Unknown(start)),
     }
@@ -102,6 +114,7 @@ fn by_outcome<O: Drop, E: Drop>(
 
 // What is told of how an update ended.
 fn by_ended<J: JournalId, O: Drop, E: Drop>(ended: Ended<J, O, E>) -> Told<J, O, E>
+    requires value { HasValue ended }
     ensures tells { TellsEnd ended result.0 }
     ensures seats { result.1 ≡ ended.seats }
 {
@@ -110,9 +123,10 @@ fn by_ended<J: JournalId, O: Drop, E: Drop>(ended: Ended<J, O, E>) -> Told<J, O,
         outcome,
         value,
         stop,
+        retries,
         seats,
     } = ended;
-    (by_outcome(start, outcome, value, stop), seats)
+    (by_outcome(start, outcome, retries, value, stop), seats)
 }
 
 // What is told of an update without an outcome. A session that goes on is left as it is.
@@ -137,6 +151,7 @@ fn by_unended<J: JournalId, O: Drop, E: Drop>(unended: Unended<J, E>) -> Told<J,
 pub(crate) fn told_of<J: JournalId, O: Drop, E: Drop>(
     came: Result<Ended<J, O, E>, Unended<J, E>>,
 ) -> Told<J, O, E>
+    requires value { IfOk came HasValue }
     ensures ended { IfOk came (λ e. TellsEnd e result.0 × (result.1 ≡ e.seats)) }
     ensures unended { IfErr came (λ u. TellsNoEnd J.bounds u result.0 result.1) }
 {

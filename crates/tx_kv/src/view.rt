@@ -1,17 +1,18 @@
 //! Reads of a client alone, at one timestamp.
-ghost use Rattle.std.specs.Prelude.{◌≡◌, IfOk, IfErr};
+ghost use Rattle.std.specs.Prelude.{◌≡◌, IfOk, IfErr, Some};
 ghost use Rattle.tx_machine.specs.Machine.{Sees, table_of};
 ghost use Rattle.tx_core.specs.Shadow.{shadow};
 ghost use Rattle.tx_journal.specs.Known.{HasDrawn};
 ghost use Rattle.tx_reader.specs.Readers.{OnlySees};
+ghost use Rattle.tx_simple.specs.Ranges.{IsRestOf, end_of_page};
 ghost use Rattle.tx_kv.specs.Views.{IsViewStop, SeesRange};
 
 use crate::client::Client;
 use std::alloc::Global;
 use std::sync::Wait;
 use tx_journal::JournalId;
-use tx_simple::{KeyRange, Stop};
-use tx_types::{Fault, Key, KeyValues, Ts, Value};
+use tx_simple::{KeyRange, Page, Stop};
+use tx_types::{Fault, Key, KeyValue, Ts, Value};
 
 /// Reads of a client alone, at one timestamp: a view of the store as it was there. It is no
 /// transaction: nothing is written, and nothing is to be ended. As long as it is there, its client
@@ -19,7 +20,7 @@ use tx_types::{Fault, Key, KeyValues, Ts, Value};
 ///
 /// ```
 /// let mut view = client.view()?;
-/// let part = count(&view.range(Some(from.clone()?), Some(to.clone()?))?);
+/// let part = view.range(Some(from.clone()?), Some(to.clone()?))?.len();
 /// ```
 pub struct View<'v, 'a, J: JournalId, R: Wait> {
     client: &'v mut Client<'a, J, R>,
@@ -38,11 +39,12 @@ impl<'a, J: JournalId, R: Wait> Client<'a, J, R> {
     /// the client has drawn 2^32 ticks.
     ///
     /// ```
-    /// let now = count(&client.view()?.range(None, None)?);
+    /// let now = client.view()?.range(None, None)?.len();
     /// ```
     pub fn view(&mut self) -> Result<View<'_, 'a, J, R>, Fault>
         ensures drawn { IfOk result (λ view. HasDrawn J.bounds self.old.seats.resolves.seat
             self.old.seats.resolves.events 1 view.at view.client.now.seats.resolves.events) }
+        ensures err { IfErr result (λ e. e ≡ Fault.OracleSpent) }
         ensures begins { IfOk result (λ view. view.client.now.seats.begins ≡ self.old.seats.begins) }
         ensures lent { IfOk result (λ view. view.client.ghost_name ≡ self.entry.ghost_name) }
     {
@@ -104,9 +106,9 @@ impl<'v, 'a, J: JournalId, R: Wait> View<'v, 'a, J, R> {
 
     /// The rows of a range, of any number: from a key, or from the least, and up to but not
     /// including another, or to the greatest. It stops only by what `get` does.
-    pub fn range(&mut self, from: Option<Key>, to: Option<Key>) -> Result<KeyValues, Stop>
+    pub fn range(&mut self, from: Option<Key>, to: Option<Key>) -> Result<Vec<KeyValue>, Stop>
         ensures finds { IfOk result
-            (λ rows. SeesRange self.new.client.now.seats.resolves.events self.old.at from to rows) }
+            (λ rows. SeesRange self.new.client.now.seats.resolves.events self.old.at from to rows.items) }
         ensures err { IfErr result (IsViewStop self.old.at) }
         ensures begins { self.new.client.now.seats.begins ≡ self.old.client.now.seats.begins }
         ensures resolves { OnlySees self.old.client.now.seats.resolves self.new.client.now.seats.resolves }
@@ -114,5 +116,25 @@ impl<'v, 'a, J: JournalId, R: Wait> View<'v, 'a, J, R> {
     {
         let range = KeyRange::new(self.alloc(), from, to)?;
         self.client.rows_at(self.at, &range)
+    }
+
+    /// The first rows of a range, `limit` at most where its end is given, and what is left of it,
+    /// which begins above where the range does; none where they are all. A page may have fewer
+    /// where a region ends. Page by page, each of the rest of the one before, they are those of
+    /// `range`. It stops only by what `get` does.
+    ///
+    /// ```
+    /// let page = view.page(range, 100)?;
+    /// ```
+    pub fn page(&mut self, range: KeyRange, limit: u32) -> Result<Page, Stop>
+        ensures finds { IfOk result (λ page. SeesRange self.new.client.now.seats.resolves.events self.old.at
+            (Some range.from) (end_of_page range page.rest) page.rows.items) }
+        ensures rest { IfOk result (λ page. IsRestOf range page.rest) }
+        ensures err { IfErr result (IsViewStop self.old.at) }
+        ensures begins { self.new.client.now.seats.begins ≡ self.old.client.now.seats.begins }
+        ensures resolves { OnlySees self.old.client.now.seats.resolves self.new.client.now.seats.resolves }
+        ensures same { (self.new.at ≡ self.old.at) × (self.new.client.ghost_name ≡ self.old.client.ghost_name) }
+    {
+        self.client.page_at(self.at, range, limit)
     }
 }

@@ -1,13 +1,12 @@
 //! A store that is opened, written, and read as it was before.
 mod collection;
-mod first;
 mod ranges;
 
 use std::sync::Wait;
 use std::test::Fail;
 use tx_kv::{
-    Client, Failure, Fault, JournalId, Key, NotUpdated, Outcome, Program, Stop, Ts, Tx, Unopened,
-    Value, Work, with_store,
+    Client, Failure, Fault, JournalId, Key, NotUpdated, Program, Stop, Ts, Tx, Unopened, Value,
+    Work, with_store,
 };
 
 /// Puts a byte on the key `a`; refuses 0.
@@ -50,10 +49,7 @@ struct Story;
 // Puts a byte: the value that came back, where it is committed.
 fn put_byte<J: JournalId, R: Wait>(client: &mut Client<'_, J, R>, byte: u8) -> Option<u8> {
     let updated = client.update(&mut Put(byte)).ok()?;
-    match updated.outcome {
-        Outcome::Committed(_) => Some(updated.value),
-        _ => None,
-    }
+    updated.commit.map(|_| updated.value)
 }
 
 // What is seen before anything is put, after one byte and after the second, each at its timestamp,
@@ -75,6 +71,14 @@ fn told<J: JournalId, R: Wait>(client: &mut Client<'_, J, R>) -> Option<[Option<
     ])
 }
 
+// Whether a work that enters a byte and refuses is told so, and the byte from before is still
+// there.
+fn is_refused<J: JournalId, R: Wait>(client: &mut Client<'_, J, R>) -> Option<bool> {
+    let refused = matches!(client.update(&mut Put(0)), Err(NotUpdated::Own(Zero)));
+    let now = client.timestamp().ok()?;
+    Some(refused && byte_at(client, now).ok()? == Some(2))
+}
+
 impl<R: Wait> Program<R> for Story {
     type Out = usize;
 
@@ -86,7 +90,7 @@ impl<R: Wait> Program<R> for Story {
 
     fn end<J: JournalId>(self, client: &mut Client<'_, J, R>, numbers: Vec<usize>) -> bool {
         let seen = told(client) == Some([None, Some(1), Some(2)]);
-        let refused = matches!(client.update(&mut Put(0)), Err(NotUpdated::Own(Zero)));
+        let refused = is_refused(client) == Some(true);
         let future = matches!(
             byte_at(client, Ts::new(1_000_000)),
             Err(Stop::Refused(Fault::FutureTimestamp { .. }))

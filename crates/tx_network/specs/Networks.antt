@@ -1,5 +1,5 @@
 -- What the network of one thread makes of requests.
-use Rattle.std.specs.Prelude.{◌≡◌, ◌≤◌, ◌⊎◌, ℕ, suc, ◌+◌, ◌&&◌, not, nat_le, Bool, true, false, cond, List, [], ◌∷◌, map, length, Option, Some, None, option_map, is_some, Result, Ok, Err, IfOk, IfSome, String, string_bytes, bytes_eq}
+use Rattle.std.specs.Prelude.{◌≡◌, ◌≤◌, ◌⊎◌, ℕ, suc, ◌+◌, ◌&&◌, not, nat_le, Bool, true, false, cond, List, [], ◌∷◌, map, length, Option, Some, None, option_map, is_some, Result, Ok, Err, IfOk, IfSome, String, string_bytes, bytes_eq, option_and_then}
 use Rattle.std.specs.Global.{Global}
 use Rattle.std.specs.Map.{lookup, update}
 use Rattle.std.specs.List.{sum_by}
@@ -28,6 +28,8 @@ use Rattle.tx_core.specs.declared.event.Declaration.{Declaration}
 use Rattle.tx_core.specs.declared.event.Taken.{Taken as TakenOf}
 use Rattle.tx_core.specs.Worlds.{IsWorldRun}
 use Rattle.tx_trace.specs.Traces.{Noted, Traces, Adds}
+use Rattle.tx_trace.specs.declared.taken.Taking.{Taking}
+use Rattle.tx_trace.specs.declared.taken.TakenLog.{TakenLog}
 use Rattle.tx_journal.specs.Replies.{Asked, Given}
 use Rattle.tx_steps.specs.declared.delivery.Delivery.{Delivery}
 use Rattle.tx_steps.specs.declared.delivery.Delivery.TheVariants as deliveries
@@ -123,6 +125,10 @@ NotesTaken body (Some a) old new = (x : TakenOf) → x.body ≡ body → x.answe
 -- where a trace is kept, it is that of what is newest
 abbrev pub IsTraced : NetworkParts → Type 0
 IsTraced d = IfSome d.trace (λ t. (bounds : List Key) → IsWorldRun bounds d.newest → Traces d.newest t)
+
+-- what regions took, oldest first, where a trace keeps that
+abbrev pub takings_in : Option Noted → Option (List Taking)
+takings_in o = option_and_then (λ (n : Noted). option_map (λ (t : TakenLog). t.takings.items) n.taken) o
 
 -- ---- what regions take
 

@@ -4,3 +4,5 @@ pub mod Lefts
 pub mod Counts
 -- Past the last transaction nobody is told of.
 pub mod Past
+-- What explains the whole explains what is left.
+pub mod Wholes

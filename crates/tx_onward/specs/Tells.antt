@@ -1,6 +1,7 @@
--- Of which transactions a no tells: of those on its cycle, or of the one that read what it names.
--- Of a cycle of writes alone it also tells of those that read in the key of its first edge what
--- that edge's second transaction put there: that is why the order of its writes is known.
+-- Of which transactions a no tells: of those on its cycle, on one of the rounds that refute it, or
+-- of the one that read what it names. Of a cycle of writes alone it also tells of those that read
+-- in the key of its first edge what that edge's second transaction put there: that is why the order
+-- of its writes is known.
 use Rattle.std.specs.Prelude.{ℕ, ◌+◌, ◌==◌, Bool, true, false, ◌&&◌, ◌||◌, cond, List, [], ◌∷◌, length, nat_le, Option, Some, None, slice_get}
 use Rattle.std.specs.List.{list_any}
 use Rattle.tx_verdict.specs.declared.anomaly.Anomaly.{Anomaly}
@@ -17,7 +18,10 @@ use Rattle.tx_verdict.specs.declared.verdict.Beside.TheVariants.{Nothing}
 use Rattle.tx_verdict.specs.declared.verdict.Cycle.{Cycle}
 use Rattle.tx_verdict.specs.declared.verdict.CycleStep.{CycleStep}
 use Rattle.tx_verdict.specs.declared.verdict.Verdict.{Verdict}
-use Rattle.tx_verdict.specs.declared.verdict.Verdict.TheVariants.{No, Fact as Found}
+use Rattle.tx_verdict.specs.declared.verdict.Verdict.TheVariants.{No, Refuted, Fact as Found}
+use Rattle.tx_verdict.specs.declared.refutation.Settled.{Settled}
+use Rattle.tx_verdict.specs.declared.refutation.Lemma.{Lemma}
+use Rattle.tx_verdict.specs.declared.refutation.Refutation.{Refutation}
 
 -- it is known to have committed
 abbrev pub is_ok : Outcome → Bool
@@ -63,6 +67,19 @@ sees_first r (Some s) t = sees_second r s.to s.key t
 abbrev pub is_on : List CycleStep → ℕ → Bool
 is_on steps t = list_any (λ s. s.from == t) steps
 
+-- t is on the round of the order
+abbrev pub is_round_of : ℕ → Settled → Bool
+is_round_of t f = is_on f.round.items t
+
+-- t is on the round of the clause
+abbrev pub is_lemma_of : ℕ → Lemma → Bool
+is_lemma_of t l = is_on l.round.items t
+
+-- t is on one of the rounds
+abbrev pub is_on_one : Refutation → ℕ → Bool
+is_on_one x t = is_on x.last.items t || (list_any (is_round_of t) x.facts.items
+    || list_any (is_lemma_of t) x.lemmas.items)
+
 abbrev pub is_writes : Anomaly → Bool
 is_writes G0 = true
 is_writes _ = false
@@ -81,6 +98,7 @@ is_named r c t = is_on c.steps.items t || (is_dirty c && sees_first r (slice_get
 -- what is told is told of t
 abbrev pub is_of : Recording → Verdict → ℕ → Bool
 is_of r (No c) t = is_named r c t
+is_of r (Refuted x) t = is_on_one x t
 is_of r (Found f) t = f.txn == t
 is_of r _ t = false
 

@@ -2,9 +2,11 @@
 //! is taken as not known, and what is left is judged again.
 #![tactic(auto)]
 
+mod laws;
 mod left;
 mod noted;
 mod tells;
 
+pub use laws::refused_left_refuses_whole;
 pub use left::left_of;
 pub use noted::note;

@@ -1,10 +1,11 @@
 //! Which transactions a verdict tells of.
 ghost use Rattle.std.specs.Prelude.{◌≡◌, slice_get, Option};
+ghost use Rattle.std.specs.List.{list_any};
 ghost use Rattle.tx_recording.specs.Recordings.{IsRecording, transaction_at, ops_of as ops_in};
-ghost use Rattle.tx_onward.specs.Tells.{is_ok as is_ok_outcome, is_value, puts_value, sees_one, read_by, sees_in, sees_second, sees_first, is_on, is_dirty, is_named, tells};
+ghost use Rattle.tx_onward.specs.Tells.{is_ok as is_ok_outcome, is_value, puts_value, sees_one, read_by, sees_in, sees_second, sees_first, is_on, is_round_of, is_lemma_of, is_on_one, is_dirty, is_named, tells};
 
 use tx_recording::{Act, Op, Recording, Span};
-use tx_verdict::{Anomaly, Beside, Cycle, CycleStep, Verdict};
+use tx_verdict::{Anomaly, Beside, Cycle, CycleStep, Lemma, Refutation, Settled, Verdict};
 
 // Whether an act puts a value.
 fn is_value(act: Act, value: u32) -> bool
@@ -127,6 +128,41 @@ fn is_on(steps: &[CycleStep], txn: u32) -> bool
     false
 }
 
+// Whether a transaction is on the round of one of these orders.
+fn is_settled_by(facts: &[Settled], txn: u32) -> bool
+    ensures { result ≡ list_any (is_round_of txn) facts.now }
+{
+    for i in 0..facts.len() {
+        if is_on(facts[i].round.as_slice(), txn) {
+            return true;
+        }
+    }
+    false
+}
+
+// Whether a transaction is on the round of one of these clauses.
+fn is_learned_by(lemmas: &[Lemma], txn: u32) -> bool
+    ensures { result ≡ list_any (is_lemma_of txn) lemmas.now }
+{
+    for i in 0..lemmas.len() {
+        if is_on(lemmas[i].round.as_slice(), txn) {
+            return true;
+        }
+    }
+    false
+}
+
+// Whether a transaction is on one of the rounds of a refutation.
+fn is_on_one(refutation: &Refutation, txn: u32) -> bool
+    ensures { result ≡ is_on_one refutation.now txn }
+{
+    let facts = refutation.facts.as_slice();
+    let lemmas = refutation.lemmas.as_slice();
+    is_on(refutation.last.as_slice(), txn)
+        || is_settled_by(facts, txn)
+        || is_learned_by(lemmas, txn)
+}
+
 // Whether all edges of a cycle are of writes.
 fn is_dirty(cycle: &Cycle) -> bool
     ensures { result ≡ is_dirty cycle.now }
@@ -163,7 +199,8 @@ pub(crate) fn tells(recording: &Recording, verdict: &Verdict, txn: u32) -> bool
     }
     match verdict {
         Verdict::No(cycle) => is_named(recording, cycle, txn),
+        Verdict::Refuted(refutation) => is_on_one(refutation, txn),
         Verdict::Fact(fact) => fact.txn == txn,
-        Verdict::Yes(_) | Verdict::Open(_) | Verdict::Twice(..) => false,
+        Verdict::Yes(_) | Verdict::Open(_) | Verdict::Unknown | Verdict::Twice(..) => false,
     }
 }

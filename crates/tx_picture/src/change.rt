@@ -2,10 +2,14 @@
 use std::alloc::{AllocError, Global};
 use tx_sheet::{Change, KeyColumn, Kind, SeenLock, SeenRecord, is_same_lock, put_stamp};
 
-// Appends what a lock will do, whose it is by start, and its minimum.
-fn put_lock(out: &mut String, lock: SeenLock) -> Result<(), AllocError> {
+// Appends what a lock will do and the value of a put, whose it is by start, and its minimum.
+fn put_lock(out: &mut String, lock: SeenLock, value: &str) -> Result<(), AllocError> {
     out.push_str(lock.kind.word())?;
-    put_stamp(out, " of ", lock.start)?;
+    if !value.is_empty() {
+        out.push(' ')?;
+        out.push_str(value)?;
+    }
+    put_stamp(out, " by ", lock.start)?;
     if lock.minimum > 0 {
         put_stamp(out, ", min ", lock.minimum)?;
     }
@@ -43,7 +47,7 @@ fn put_lock_change(out: &mut String, key: &str, change: &Change) -> Result<(), A
     }
     put_part(out, key)?;
     match change.lock {
-        Some(lock) => put_lock(out, lock),
+        Some(lock) => put_lock(out, lock, change.value.as_str()),
         None => out.push_str("unlocked"),
     }
 }

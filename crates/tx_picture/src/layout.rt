@@ -1,15 +1,14 @@
 //! A sheet as text.
 use crate::change::words_of;
 use std::alloc::{AllocError, Global};
-use tx_sheet::{KeyColumn, Row, Sending, Session, Sheet, places, put_number, shown};
+use tx_sheet::{KeyColumn, Row, Sending, Sheet, places, put_number, shown};
 
 /// The widest that a column is, but for the two places between columns.
 const MAX_WIDTH: usize = 34;
 
-// A column of a sheet: what stands at its head, where it begins, and how wide it is.
-#[derive(Drop)]
+// A column of a sheet: where it begins, and how wide it is.
+#[derive(Clone, Copy, Drop)]
 struct Column {
-    head: String,
     begins: usize,
     width: usize,
 }
@@ -58,29 +57,26 @@ fn entries_of(alloc: Global, rows: &[Row]) -> Result<Vec<String>, AllocError> {
 }
 
 // The width of the widest entry of a column.
-fn widest(rows: &[Row], entries: &[String], column: usize) -> usize {
+fn widest_entry(sheet: &Sheet, entries: &[String], column: usize) -> usize {
     let mut width = 0;
-    'rows: for (row, entry) in rows.iter().zip(entries) {
-        if row.column == Some(column) {
+    'rows: for (row, entry) in sheet.rows.iter().zip(entries) {
+        if sheet.column_of(row) == Some(column) {
             width = places(entry.as_str()).max(width);
         }
     }
     width
 }
 
-fn column_of(
-    alloc: Global,
-    session: &Session,
-    begins: usize,
-    widest: usize,
-) -> Result<Column, AllocError> {
-    let head = shown(alloc, session.name.as_str())?;
-    let width = places(head.as_str()).max(widest).min(MAX_WIDTH) + 2;
-    Ok(Column {
-        head,
-        begins,
-        width,
-    })
+// The width of the widest name at the head of a column.
+fn widest_name(alloc: Global, sheet: &Sheet, column: usize) -> Result<usize, AllocError> {
+    let mut width = 0;
+    'sessions: for session in &sheet.sessions {
+        if session.column == column {
+            let name = shown(alloc, session.name.as_str())?;
+            width = places(name.as_str()).max(width);
+        }
+    }
+    Ok(width)
 }
 
 // The columns of sessions, and where what changed begins.
@@ -91,25 +87,24 @@ fn columns_of(
 ) -> Result<(Vec<Column>, usize), AllocError> {
     let mut columns = Vec::new(alloc);
     let mut begins = 0usize;
-    'sessions: for (place, session) in sheet.sessions.iter().enumerate() {
-        let width = widest(sheet.rows.as_slice(), entries, place);
-        let column = column_of(alloc, session, begins, width)?;
-        begins = begins.saturating_add(column.width);
-        columns.push(column)?;
+    for place in 0..sheet.columns {
+        let widest = widest_entry(sheet, entries, place);
+        let width = widest_name(alloc, sheet, place)?.max(widest).min(MAX_WIDTH) + 2;
+        columns.push(Column { begins, width })?;
+        begins = begins.saturating_add(width);
     }
     Ok((columns, begins))
 }
 
-fn put_head(out: &mut String, columns: &[Column]) -> Result<(), AllocError> {
-    out.push_str("line  ")?;
-    'columns: for column in columns {
-        out.push_str(column.head.as_str())?;
-        put_spaces(
-            out,
-            column.width.saturating_sub(places(column.head.as_str())),
-        )?;
+// The first session of each column.
+fn first_heads(alloc: Global, sheet: &Sheet) -> Result<Vec<usize>, AllocError> {
+    let mut heads = Vec::new(alloc);
+    'sessions: for (place, session) in sheet.sessions.iter().enumerate() {
+        if session.column == heads.len() {
+            heads.push(place)?;
+        }
     }
-    out.push_str("what changed\n")
+    Ok(heads)
 }
 
 // Appends the number of a line, in four places.
@@ -177,12 +172,64 @@ fn put_machine(out: &mut String, indent: usize, steps: &[String]) -> Result<(), 
 // What stands around the rows.
 #[derive(Clone, Copy)]
 struct Frame<'a> {
-    keys: &'a [KeyColumn],
+    sheet: &'a Sheet,
     columns: &'a [Column],
     total: usize,
 }
 
 impl Frame<'_> {
+    // The name of a session that has not ended before this row; else nothing.
+    fn name_at(&self, alloc: Global, session: usize, row: usize) -> Result<String, AllocError> {
+        match self.sheet.sessions.get(session) {
+            Some(session) if session.ends.unwrap_or(row) >= row => {
+                shown(alloc, session.name.as_str())
+            }
+            _ => Ok(String::new(alloc)),
+        }
+    }
+
+    // Appends the heads of the columns as they are at a row.
+    fn put_head(
+        &self,
+        alloc: Global,
+        out: &mut String,
+        heads: &[usize],
+        row: usize,
+    ) -> Result<(), AllocError> {
+        out.push_str("line  ")?;
+        'columns: for (column, session) in self.columns.iter().zip(heads) {
+            let name = self.name_at(alloc, *session, row)?;
+            out.push_str(name.as_str())?;
+            put_spaces(out, column.width.saturating_sub(places(name.as_str())))?;
+        }
+        out.push_str("what changed\n")
+    }
+
+    // Appends the heads once more where a session takes the column of another.
+    fn put_new_head(
+        &self,
+        alloc: Global,
+        out: &mut String,
+        heads: &mut [usize],
+        number: usize,
+        row: &Row,
+    ) -> Result<(), AllocError> {
+        let Some(place) = row.session else {
+            return Ok(());
+        };
+        let Some(session) = self.sheet.sessions.get(place) else {
+            return Ok(());
+        };
+        let Some(head) = heads.get_mut(session.column) else {
+            return Ok(());
+        };
+        if *head == place {
+            return Ok(());
+        }
+        *head = place;
+        self.put_head(alloc, out, heads, number)
+    }
+
     // Appends a row.
     fn put_row(
         &self,
@@ -192,12 +239,12 @@ impl Frame<'_> {
         row: &Row,
         entry: &str,
     ) -> Result<(), AllocError> {
-        let indent = begins(self.columns, row.column).unwrap_or(0);
+        let indent = begins(self.columns, self.sheet.column_of(row)).unwrap_or(0);
         put_line_number(out, number)?;
         put_spaces(out, indent)?;
         out.push_str(entry)?;
         let end = indent.saturating_add(places(entry));
-        let changes = words_of(alloc, self.keys, row.changes.as_slice())?;
+        let changes = words_of(alloc, self.sheet.keys.as_slice(), row.changes.as_slice())?;
         put_changes(out, end, self.total, changes.as_str())?;
         out.push('\n')?;
         put_reason(out, indent, row.reason.as_str())?;
@@ -206,19 +253,22 @@ impl Frame<'_> {
 }
 
 /// The text of a sheet: a column a session, a line a step, and beside it what changed of keys.
+/// Where a session takes a column that was another's, the heads stand there once more.
 pub fn text_of(alloc: Global, sheet: &Sheet) -> Result<String, AllocError> {
     let mut out = String::new(alloc);
     let entries = entries_of(alloc, sheet.rows.as_slice())?;
     let (columns, total) = columns_of(alloc, sheet, entries.as_slice())?;
     let frame = Frame {
-        keys: sheet.keys.as_slice(),
+        sheet,
         columns: columns.as_slice(),
         total,
     };
-    put_head(&mut out, columns.as_slice())?;
+    let mut heads = first_heads(alloc, sheet)?;
+    frame.put_head(alloc, &mut out, heads.as_slice(), 0)?;
     let mut number = 0u64;
-    'rows: for (row, entry) in sheet.rows.iter().zip(entries.as_slice()) {
+    'rows: for (place, (row, entry)) in sheet.rows.iter().zip(entries.as_slice()).enumerate() {
         number = number.saturating_add(1);
+        frame.put_new_head(alloc, &mut out, heads.as_mut_slice(), place, row)?;
         frame.put_row(alloc, &mut out, number, row, entry.as_str())?;
     }
     Ok(out)

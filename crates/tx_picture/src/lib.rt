@@ -1,5 +1,5 @@
-//! A played script as text: a column a session, a line a step, and beside it what changed of each
-//! key.
+//! A played script as text: a column a session while it lives, a line a step, and beside it what
+//! changed of each key.
 #![tactic(auto)]
 
 mod change;

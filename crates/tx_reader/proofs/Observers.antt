@@ -1,5 +1,5 @@
 -- Seats that only see what others did, and what a read at a timestamp finds.
-use Rattle.std.proofs.Common.{◌≡◌, inl, inr, ℕ, IsTrue, true, List, [], ◌∷◌, ◌++◌, Contains, Some, None, Result, Ok, Err, IfOk, OnOk, OnErr, refl, sym, ap, subst, ◌∙◌}
+use Rattle.std.proofs.Common.{◌≡◌, inl, inr, ℕ, IsTrue, true, List, [], ◌∷◌, ◌++◌, Contains, Option, Some, None, Result, Ok, Err, IfOk, IfErr, OnOk, OnErr, refl, sym, ap, subst, ◌∙◌}
 use Rattle.std.proofs.lemmas.List.Elements.{Contains-push, Contains-push_cases}
 use Rattle.tx_types.specs.declared.key.Key.{Key}
 use Rattle.tx_types.specs.declared.lock.LockInfo.{LockInfo}
@@ -21,8 +21,9 @@ use Rattle.tx_core.proofs.seats.Beginnings.{extends_all, extends_more, extends_b
 use Rattle.tx_journal.specs.Known.{Known, HasSeen}
 use Rattle.tx_journal.specs.Replies.{Asked}
 use Rattle.tx_core.proofs.seats.Stays.{among_on}
-use Rattle.tx_journal.specs.Senders.{IsHeld, Reached}
-use Rattle.tx_client.specs.Learns.{response_of, Learns}
+use Rattle.tx_journal.specs.Senders.{IsHeld, LosesNothing, Reached}
+use Rattle.tx_transaction.specs.declared.state.Miss.TheVariants as miss
+use Rattle.tx_client.specs.Learns.{response_by, response_of, Learns}
 use Rattle.tx_client.specs.Walks.{Walk, asks, grows, ends, Sends}
 use Rattle.tx_client.specs.Facts.{WasAnswered}
 use Rattle.tx_client.specs.declared.resolved.Status.{Status}
@@ -67,6 +68,17 @@ module _ (bounds : List Key) where
       → IsWorldRun bounds new.events
   learns_run k new (Err l) run same = subst (λ (z : Known). IsWorldRun bounds z.events) (sym same) run
   learns_run k new (Ok g) run (number, ticks, seen, told, given) = seen.run
+
+-- where nothing is lost, only memory is wanting
+pub short_alone : {S : Type 0} (sends : S → Asked → Reached → S → Type 0) → LosesNothing sends
+    → (from to : S) (q : Asked)
+    (reached : Reached) → sends from q reached to → IfErr (response_of reached) (λ m. m ≡ miss.Fault)
+short_alone sends lossless from to q (Err l) sent = absurd (lossless from to q l sent)
+short_alone sends lossless from to q (Ok g) sent = by g.answer
+  where
+    by : (o : Option Answer) → IfErr (response_by o) (λ m. m ≡ miss.Fault)
+    by None = refl
+    by (Some a) = tt
 
 module _ {S : Type 0} (sends : S → Asked → Reached → S → Type 0) (bounds : List Key) where
   -- who sends only sees what others did

@@ -1,11 +1,12 @@
 //! Who reads at a timestamp.
-ghost use Rattle.std.specs.Prelude.{◌≡◌, IfOk};
+ghost use Rattle.std.specs.Prelude.{◌≡◌, IfOk, IfErr};
 ghost use Rattle.tx_plan.specs.declared.body.Body.{Body as Sent};
 ghost use Rattle.tx_core.specs.Allowed.{Allowed};
 ghost use Rattle.tx_core.specs.Histories.{Begins};
 ghost use Rattle.tx_core.specs.Laws.{WasToldOf};
 ghost use Rattle.tx_core.specs.Worlds.{IsWorldRun};
-ghost use Rattle.tx_journal.specs.Senders.{IsSender};
+ghost use Rattle.tx_journal.specs.Senders.{IsSender, LosesNothing};
+ghost use Rattle.tx_transaction.specs.declared.state.Miss.TheVariants.{Fault as Short};
 ghost use Rattle.tx_client.specs.Facts.{WasAnswered};
 ghost use Rattle.tx_reader.specs.Readers.{AreTogether, IsAnswerTo, IsKeyAnswer, IsOfOneRegion, IsPartAnswer, IsReadOf, FindsAt, OnlySees, ReadsAt, ScansAt};
 
@@ -117,6 +118,7 @@ impl<J: JournalId> Reader<J> {
         ensures run { IsWorldRun J.bounds self.new.seat.events }
         ensures told { IfOk result (λ a. (b : Sent) × IsReadOf read.now self.old.at b
             × WasAnswered self.new.seat.events b a) }
+        ensures lossless { LosesNothing S.sends → IfErr result (λ m. m ≡ Short) }
     {
         let Ok(body) = self.body_of(read) else {
             return Err(Miss::Fault);
@@ -128,6 +130,7 @@ impl<J: JournalId> Reader<J> {
     fn note(&mut self, found: Resolved<J>) -> Result<(), Miss>
         requires told { Begins found.events self.old.seat.events }
         ensures same { self.new ≡ self.old }
+        ensures err { IfErr result (λ m. m ≡ Short) }
     {
         let (start, status, told) = found.into_parts();
         drop(told);
@@ -151,6 +154,7 @@ impl<J: JournalId> Reader<J> {
         requires told { WasToldOf self.old.seat.events info.now }
         ensures at { self.new.at ≡ self.old.at }
         ensures seat { OnlySees self.old.seat self.new.seat }
+        ensures err { IfErr result (λ m. m ≡ Short) }
     {
         let found = resolve(&mut self.seat, info, self.at, now, sender);
         let waits = matches!(found.status(), Status::Waiting(_));
@@ -170,6 +174,7 @@ impl<J: JournalId> Reader<J> {
         ensures seat { OnlySees self.old.seat self.new.seat }
         ensures finds { IfOk result (FindsAt J.bounds self.new.seat.events self.old.at read.now) }
         ensures may { IfOk result (IsAnswerTo self.old.at read.now) }
+        ensures lossless { LosesNothing S.sends → IfErr result (λ m. m ≡ Short) }
     {
         let now = self.seat.last();
         for _ in 0..LOCKS {
@@ -188,7 +193,8 @@ impl<J: JournalId> Reader<J> {
     /// Reads a key. A lock in the way is resolved, as at the last timestamp that was drawn;
     /// `KeyIsLocked` where it still stands there. It finds what the one-step machine sees. It is
     /// answered `BelowSafePoint` where its timestamp lies below the safe point, `FutureTimestamp`
-    /// where that was not drawn yet, and nothing else.
+    /// where that was not drawn yet, and nothing else. Where the sender loses nothing it goes
+    /// without an answer for want of memory alone.
     pub fn get<S: Sender<Request<J>, Reply<J>>>(
         &mut self,
         key: &Key,
@@ -199,6 +205,7 @@ impl<J: JournalId> Reader<J> {
         ensures seat { OnlySees self.old.seat self.new.seat }
         ensures finds { IfOk result (ReadsAt self.new.seat.events self.old.at key.now) }
         ensures may { IfOk result (IsKeyAnswer self.old.at) }
+        ensures lossless { LosesNothing S.sends → IfErr result (λ m. m ≡ Short) }
     {
         let Ok(key) = key.clone() else {
             return Err(Miss::Fault);
@@ -222,6 +229,7 @@ impl<J: JournalId> Reader<J> {
         ensures seat { OnlySees self.old.seat self.new.seat }
         ensures finds { IfOk result (ScansAt J.bounds self.new.seat.events self.old.at from.now to.now limit) }
         ensures may { IfOk result (IsPartAnswer self.old.at) }
+        ensures lossless { LosesNothing S.sends → IfErr result (λ m. m ≡ Short) }
     {
         let (Ok(from), Ok(to)) = (from.clone(), to.clone()) else {
             return Err(Miss::Fault);

@@ -22,4 +22,4 @@ pub use copy_plan::is_of_key;
 pub use key_copy::{KeyCopy, Planned};
 pub use records::{Executed, Records};
 pub use region::Region;
-pub use routes::{fronts, route, route_by};
+pub use routes::{FrontRanges, fronts, route, route_by};

@@ -49,14 +49,81 @@ fn is_reached(fronts: &[u64], index: usize, front: u64) -> bool
     index == 0 || fronts[index - 1] < front
 }
 
+// How many of these numbers are smaller than this one, as far as 255.
+fn count_below(fronts: &[u64], bound: u64) -> u8 {
+    let mut count: u8 = 0;
+    for front in fronts {
+        if *front < bound {
+            count = count.saturating_add(1);
+        }
+    }
+    count
+}
+
+/// Where the search for the region of a key begins: fronts in 64 ranges of one length, and of each
+/// range how many of the keys between the regions lie before it. Nothing rests on it but time.
+#[derive(Drop)]
+pub struct FrontRanges {
+    low: u64,
+    shift: u32,
+    before: [u8; RANGES],
+}
+
+/// How many ranges there are.
+const RANGES: usize = 64;
+
+impl FrontRanges {
+    /// The ranges of these fronts, which rise.
+    pub fn new(fronts: &[u64]) -> FrontRanges {
+        let low = fronts.first().copied().unwrap_or(0);
+        let span = fronts.last().copied().unwrap_or(0).saturating_sub(low);
+        let mut shift: u32 = 0;
+        for _ in 0..58 {
+            if span.wrapping_shr(shift) >= 64 {
+                shift = shift.saturating_add(1);
+            }
+        }
+        let mut before = [0; RANGES];
+        for range in 0..RANGES {
+            let from = low.saturating_add((range as u64).wrapping_shl(shift));
+            before[range] = count_below(fronts, from);
+        }
+        FrontRanges { low, shift, before }
+    }
+
+    // How many keys between the regions lie before the range of a front.
+    #[inline(always)]
+    fn of(&self, front: u64) -> usize {
+        let range = front.saturating_sub(self.low).wrapping_shr(self.shift);
+        match self.before.get(range.min(63) as usize) {
+            Some(before) => usize::from(*before),
+            None => 0,
+        }
+    }
+}
+
+// The first index from this one on at which the number is not smaller than this front.
+#[inline(always)]
+fn first_from(fronts: &[u64], from: usize, front: u64) -> usize
+    ensures { result ≤ length fronts.now }
+{
+    for index in from..fronts.len() {
+        if !(fronts[index] < front) {
+            return index;
+        }
+    }
+    fronts.len()
+}
+
 /// As `route`, with the fronts of the keys between the regions: mostly they alone tell.
-pub fn route_by(fronts: &[u64], bounds: &[Key], key: &Key) -> usize
+#[inline(always)]
+pub fn route_by(ranges: &FrontRanges, fronts: &[u64], bounds: &[Key], key: &Key) -> usize
     requires rising { AreRising bounds.now }
     requires fronts { AreFronts bounds.now fronts.now }
     ensures { result ≡ route bounds.now key.now }
 {
     let front = key.front();
-    let index = fronts.partition_point(|other| *other < front);
+    let index = first_from(fronts, ranges.of(front), front);
     if is_past(fronts, index, front) && is_reached(fronts, index, front) {
         index
     } else {

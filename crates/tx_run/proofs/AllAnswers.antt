@@ -1,6 +1,6 @@
 -- The answers of several sessions in one list.
 use Rattle.std.proofs.Common.{◌≡◌, inl, inr, ℕ, suc, [], ◌∷◌, ◌+◌, ◌-◌, ◌<◌, ◌≤◌, List, ◌++◌, All, length-append, None, length, get_or, Bool, true, false, Option, Some, refl, sym, ap, subst, ◌∙◌, append_assoc, append-nil, arith}
-use Rattle.std.specs.Prelude.{◌||◌}
+use Rattle.std.specs.Prelude.{◌||◌, IfSome}
 use Rattle.std.specs.List.{AllPairs, flat_map, list_any}
 use Rattle.std.proofs.lemmas.List.Elements.{All-append, All-push, All-tail}
 use Rattle.std.proofs.lemmas.List.Folds.{list_any-append, list_any_none}
@@ -22,8 +22,8 @@ use Rattle.tx_workload.specs.Pairs.{TellsPair}
 use Rattle.tx_workload.specs.Tells.{TellsLine}
 use Rattle.tx_transfer.proofs.TransferWrites.{between_on}
 use Rattle.tx_workload.specs.Logs.{StandsBy, TellsBy}
-use Rattle.tx_workload.specs.Answers.{Answers, EndsSo, IsReply, has_fault, is_fault}
-use Rattle.tx_run.specs.Jobs.{IsAbove, AreAnswered, AreFalling, AreGathered, Output, IsLearnt, Joins, AreJoined}
+use Rattle.tx_workload.specs.Answers.{EndsSo, IsReply, has_fault, is_fault}
+use Rattle.tx_run.specs.Jobs.{IsAbove, AreAnswered, AreFalling, AreGathered, IsOpened, Output, IsLearnt, Joins, AreJoined}
 
 pairs_append : {X : Type 0} (R : X → X → Type 0) (xs ys : List X) → AllPairs R xs → AllPairs R ys
     → ((i j : ℕ) (d : X) → i < length xs → j < length ys → R (get_or xs i d) (get_or ys j d)) → AllPairs R (xs ++ ys)
@@ -191,6 +191,12 @@ module _ (source : Option (List ℕ)) (bounds : List Key) (h : History) (replies
 
 -- ---- what was learnt of sessions
 
+-- what a seat knew at last begins more
+pub some_more : (l h : History) → Begins l h → (last : Option History) → IfSome last (λ told. Begins told l)
+    → IfSome last (λ told. Begins told h)
+some_more l h begins None knew = tt
+some_more l h begins (Some told) knew = begins_more told l h knew begins
+
 pub joined_none : (before : List LineReply) (h : History) → AreJoined before h before []
 joined_none before h = record { learnt = λ k d lt. absurd (omega (arith, lt)); all = sym (append-nil before) }
 
@@ -204,15 +210,30 @@ joined_more before old new replies after jobs output are joins = record {
         tells = was.tells;
         knows =
             begins_more (get_or jobs k d).log.told old new was.knows joins.grew;
+        knew = some_more old new joins.grew (get_or jobs k d).last was.knew;
       }) joins.learnt;
   all = joins.all ∙ ap (λ (l : List LineReply). l ++ output.log.replies) are.all
       ∙ flat_map_more (λ (c : Output). c.log.replies) before jobs output;
 }
 
 -- what was gathered stays so as more is known
-pub gathered_on : (l h : History) → Begins l h → (firsts : List ℕ) (replies : List LineReply) (jobs : List Output)
-    → AreGathered firsts l replies jobs → AreGathered firsts h replies jobs
-gathered_on l h begins firsts replies jobs (before, named, quiet, joined) = (
+pub opened_on : (bounds : List Key) (source : Option (List ℕ)) (l h : History) → Begins l h
+    → (before : List LineReply) → IsOpened bounds source l before → IsOpened bounds source h before
+opened_on bounds source l h begins before opened = record {
+  first = opened.first;
+  opening = opened.opening;
+  seeds = opened.seeds;
+  all = opened.all;
+  seat = opened.seat;
+  last = opened.last;
+  plays = opened.plays;
+  knew = begins_more opened.last.events l h opened.knew begins;
+}
+
+pub gathered_on : (bounds : List Key) (source : Option (List ℕ)) (l h : History) → Begins l h → (firsts : List ℕ)
+    (replies : List LineReply) (jobs : List Output) → AreGathered bounds source firsts l replies jobs
+    → AreGathered bounds source firsts h replies jobs
+gathered_on bounds source l h begins firsts replies jobs (before, named, quiet, joined, opened) = (
   before,
   named,
   quiet,
@@ -222,9 +243,11 @@ gathered_on l h begins firsts replies jobs (before, named, quiet, joined) = (
           kept = was.kept;
           tells = was.tells;
           knows = begins_more (get_or jobs k d).log.told l h was.knows begins;
+          knew = some_more l h begins (get_or jobs k d).last was.knew;
         };
     all = joined.all;
   },
+  opened_on bounds source l h begins before opened,
 )
 
 -- the first of those that are left goes behind those that went

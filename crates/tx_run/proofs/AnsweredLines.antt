@@ -1,21 +1,27 @@
 -- Each line of a session is answered, in order and once, up to a fault of the script.
-use Rattle.std.proofs.Common.{◌≡◌, ℕ, Bool, true, false, List, [], ◌∷◌, ◌++◌, Option, Some, None, map, refl, sym, ap, subst, ◌∙◌, append_assoc, append-nil}
-use Rattle.std.specs.Prelude.{reverse, is_some, Err}
+use Rattle.std.proofs.Common.{◌≡◌, inl, inr, ℕ, Bool, true, false, List, [], ◌∷◌, ◌++◌, Option, Some, None, refl, sym, ap, subst, ◌∙◌, append_assoc, append-nil}
+use Rattle.std.specs.Prelude.{is_some, Result, Ok, Err, OnOk, OnErr}
+use Rattle.tx_types.specs.declared.key.Key.{Key}
 use Rattle.std.specs.Option.{option_to_list}
-use Rattle.std.proofs.lemmas.List.{map-append, reverse-reverse}
+use Rattle.std.proofs.lemmas.List.{map-append}
 use Rattle.std.proofs.lemmas.List.Folds.{list_any-append}
 use Rattle.tx_types.specs.declared.fault.Cause.{Cause}
 use Rattle.tx_core.specs.Histories.{History}
-use Rattle.tx_transaction.specs.Buffers.{Entries}
+use Rattle.tx_run.specs.Played.{Leads, Where, away, is_away, is_moving, moving}
 use Rattle.tx_workload.specs.declared.reply.LineAnswer.{LineAnswer}
 use Rattle.tx_workload.specs.declared.reply.LineAnswer.TheVariants.{Plain, Ended}
 use Rattle.tx_workload.specs.declared.reply.LineReply.{LineReply}
 use Rattle.tx_run.specs.declared.state.JobState.{JobState}
 use Rattle.tx_run.specs.declared.state.JobState.TheVariants.{Free, Live, Transfer, Taken}
-use Rattle.tx_run.specs.States.{going_of, is_transfer}
+use Rattle.tx_run.specs.States.{going_of, is_transfer, where_of}
+use Rattle.tx_client.specs.Calls.{Seated}
+use Rattle.tx_journal.specs.Known.{Known}
+use Rattle.tx_transfer.specs.TransferSteps.{Moving}
+use Rattle.tx_transfer.specs.declared.progress.TransferProgress.{TransferProgress}
 use Rattle.tx_workload.specs.Answers.{Answers, EndsSo, has_fault, is_fault, numbers_of}
-use Rattle.tx_workload.specs.Logs.{KeepsAnswer, Logged, answer_to}
-use Rattle.tx_run.specs.Jobs.{JobGoesOn, IsSound, MayAnswer, Output, Promises, Working, job_lines, with_line}
+use Rattle.tx_workload.specs.Logs.{KeepsAnswer, KeepsOutcome, Logged, answer_to}
+use Rattle.tx_run.specs.Jobs.{AdvancesSo, JobGoesOn, IsSound, MayAnswer, Output, Promises, WillPlay, Working, job_lines, with_line}
+use Rattle.tx_run.proofs.Leads.{leads_out}
 
 -- ---- step after step
 
@@ -110,6 +116,15 @@ sound_answered j log number answer sound may keeps not = record {
       (no_fault_more j.log.replies log.replies (answer_to number answer) (keeps e).1 before not);
 }
 
+-- a transaction ends, or its session comes back
+pub sound_concluded : {A B : Type 0} (j : Working) (log : Logged) (number : ℕ) (keys : Option (Key × Key))
+    (r : Result A B) → IsSound j → MayAnswer j → OnOk r (KeepsOutcome j.log number keys log) → OnErr r (log ≡ j.log)
+    → IsSound (record j { log = log })
+sound_concluded j log number keys (Ok x) sound may kept none =
+    sound_answered j log number (Ended kept.0 kept.1 keys) sound may kept.2 refl
+sound_concluded j log number keys (Err e) sound may kept none =
+    subst (λ (l : Logged). IsSound (record j { log = l })) (sym none) sound
+
 -- ---- a fault ends it
 
 pub failed : (j : Working) (log : Logged) (number : ℕ) (cause : Cause) (left : List ℕ) → MayAnswer j
@@ -144,7 +159,7 @@ sound_failed j log number cause left sound may keeps cleared = record {
 -- ---- what is on its way changes
 
 -- what its session has entered counts for nothing
-pub goes_entered : (a j : Working) (es : Entries) → JobGoesOn a j → JobGoesOn a (record j { entered = es })
+pub goes_entered : (a j : Working) (es : Where) → JobGoesOn a j → JobGoesOn a (record j { stands = es })
 goes_entered a j es goes = record {
   number = goes.number;
   seat = goes.seat;
@@ -153,19 +168,19 @@ goes_entered a j es goes = record {
   lines = goes.lines;
 }
 
-pub may_still : (j mid : Working) (es : Entries) → mid ≡ record j { going = None; entered = es } → j.faulted ≡ false
+pub may_still : (j mid : Working) (es : Where) → mid ≡ record j { going = None; stands = es } → j.faulted ≡ false
     → MayAnswer mid
 may_still j mid es is not = (ap (λ (w : Working). w.going) is, ap (λ (w : Working). w.faulted) is ∙ not)
 
-pub from_state : (j mid new : Working) (number : ℕ) (es : Entries) → mid ≡ record j { going = None; entered = es }
+pub from_state : (j mid new : Working) (number : ℕ) (es : Where) → mid ≡ record j { going = None; stands = es }
     → JobGoesOn (with_line number mid) new → JobGoesOn (with_line number j) new
 from_state j mid new number es is goes = subst (λ (w : Working). JobGoesOn (with_line number w) new) is goes
 
-pub to_state : (a mid new : Working) (es : Entries) → JobGoesOn a mid → MayAnswer mid
-    → new ≡ record mid { going = None; entered = es } → JobGoesOn a new
+pub to_state : (a mid new : Working) (es : Where) → JobGoesOn a mid → MayAnswer mid
+    → new ≡ record mid { going = None; stands = es } → JobGoesOn a new
 to_state a mid new es goes may is =
-    let same : record mid { going = None; entered = es } ≡ record mid { entered = es } =
-    ap (λ (g : Option ℕ). record mid { going = g; entered = es }) (sym may.0) in
+    let same : record mid { going = None; stands = es } ≡ record mid { stands = es } =
+    ap (λ (g : Option ℕ). record mid { going = g; stands = es }) (sym may.0) in
     subst (λ (w : Working). JobGoesOn a w) (sym (is ∙ same)) (goes_entered a mid es goes)
 
 -- its log was told more
@@ -182,7 +197,7 @@ module _ (j heard : Working) (told : History) (number : ℕ)
         lines = more.lines;
       }
 
-  pub from_heard : (mid new : Working) (es : Entries) → mid ≡ record heard { going = None; entered = es }
+  pub from_heard : (mid new : Working) (es : Where) → mid ≡ record heard { going = None; stands = es }
       → JobGoesOn (with_line number mid) new → JobGoesOn (with_line number j) new
   from_heard mid new es is goes = heard_goes new (from_state heard mid new number es is goes)
 
@@ -191,11 +206,11 @@ module _ (j heard : Working) (told : History) (number : ℕ)
       (ap (λ (w : Working). w.going) hears ∙ may.0, ap (λ (w : Working). w.faulted) hears ∙ may.1)
 
 -- a transfer is on its way
-pub began : (j new : Working) (number transfer : ℕ) → transfer ≡ number
-    → new ≡ record j { going = Some transfer; entered = [] } → JobGoesOn (with_line number j) new
-began j new number transfer same is =
+pub began : (j new : Working) (number : ℕ) (m : Moving) → m.number ≡ number
+    → new ≡ record j { going = Some m.number; stands = moving m } → JobGoesOn (with_line number j) new
+began j new number m same is =
     subst (λ (w : Working). JobGoesOn (with_line number j) w)
-    (sym (is ∙ ap (λ (n : ℕ). record j { going = Some n; entered = [] }) same))
+    (sym (is ∙ ap (λ (n : ℕ). record j { going = Some n; stands = moving m }) same))
     (record {
       number = refl;
       seat = refl;
@@ -205,11 +220,11 @@ began j new number transfer same is =
     })
 
 -- it was, and its line is answered
-pub ended : (j mid new : Working) (number : ℕ) → mid ≡ record j { going = None; entered = [] }
+pub ended : (j mid new : Working) (number : ℕ) → mid ≡ record j { going = None; stands = away }
     → Some number ≡ j.going → JobGoesOn (with_line number mid) new → JobGoesOn j new
 ended j mid new number is going goes =
     let same : record j { going = Some number } ≡ j = ap (λ (g : Option ℕ). record j { going = g }) going in
-    let more = from_state j mid new number [] is goes in
+    let more = from_state j mid new number away is goes in
     subst (λ (w : Working). JobGoesOn w new) same
     (record {
       number = more.number;
@@ -220,21 +235,36 @@ ended j mid new number is going goes =
           more.lines;
     })
 
+-- it makes steps
+pub advanced : (bounds : List Key) (j new : Working) (p : TransferProgress) → AdvancesSo bounds j p new
+    → JobGoesOn j new
+advanced bounds j new p (inl (none, is, same)) = goes_same j new same
+advanced bounds j new p (inr (m, n, there, steps, number, same)) =
+    subst (λ (w : Working). JobGoesOn j w) (sym same) (goes_entered j j (moving n) (goes_refl j))
+
+pub sound_moves : (j : Working) (m n : Moving) → n.number ≡ m.number
+    → IsSound (record j { going = Some m.number; stands = moving m })
+    → IsSound (record j { going = Some n.number; stands = moving n })
+sound_moves j m n same sound = record {
+  over = λ e. ((sound.over e).0, ap Some same ∙ (sound.over e).1);
+  ends = sound.ends;
+}
+
 -- it goes on
-pub put_back : (j mid new : Working) (going : Option ℕ) (es : Entries) → mid ≡ record j { going = None; entered = [] }
-    → going ≡ j.going → new ≡ record mid { going = going; entered = es } → JobGoesOn j new
+pub put_back : (j mid new : Working) (going : Option ℕ) (es : Where) → mid ≡ record j { going = None; stands = away }
+    → going ≡ j.going → new ≡ record mid { going = going; stands = es } → JobGoesOn j new
 put_back j mid new going es is same new_is =
     subst (λ (w : Working). JobGoesOn j w) (sym (new_is
-    ∙ ap (λ (w : Working). record w { going = going; entered = es }) is
-    ∙ ap (λ (g : Option ℕ). record j { going = g; entered = es }) same)) (goes_entered j j es (goes_refl j))
+    ∙ ap (λ (w : Working). record w { going = going; stands = es }) is
+    ∙ ap (λ (g : Option ℕ). record j { going = g; stands = es }) same)) (goes_entered j j es (goes_refl j))
 
 -- ---- a line is taken
 
 pub taken : (j mid new : Working) (number : ℕ) → j ≡ record mid { left = number ∷ mid.left } → mid.going ≡ None
     → JobGoesOn (with_line number mid) new → JobGoesOn j new
 taken j mid new number is none goes =
-    let same : with_line number mid ≡ record mid { left = number ∷ mid.left; entered = [] } =
-    ap (λ (g : Option ℕ). record mid { going = g; left = number ∷ mid.left; entered = [] }) (sym none) in
+    let same : with_line number mid ≡ record mid { left = number ∷ mid.left; stands = away } =
+    ap (λ (g : Option ℕ). record mid { going = g; left = number ∷ mid.left; stands = away }) (sym none) in
     let more = subst (λ (w : Working). JobGoesOn w new) same goes in
     subst (λ (w : Working). JobGoesOn w new) (sym is) (record {
       number = more.number;
@@ -262,9 +292,9 @@ leads a b o goes promises = record {
       };
 }
 
-pub promised : (j : Working) → IsSound j → j.left ≡ [] → j.going ≡ None
-    → Promises j (record { number = j.number; log = j.log; faulted = j.faulted })
-promised j sound left going = record {
+pub promised : (j : Working) (last : Option History) → IsSound j → j.left ≡ [] → j.going ≡ None
+    → Promises j (record { number = j.number; log = j.log; faulted = j.faulted; last = last })
+promised j last sound left going = record {
   seat = refl;
   kept = λ e. e;
   faulted = λ e. e;
@@ -277,6 +307,33 @@ promised j sound left going = record {
   };
 }
 
+-- its session is over
+pub promised_on : (j mid : Working) (o : Output) → mid ≡ record j { going = None; stands = away } → j.going ≡ None
+    → Promises mid o → Promises j o
+promised_on j mid o is none promises =
+    let p = subst (λ (w : Working). Promises w o) is promises in
+    record {
+      seat = p.seat;
+      kept = p.kept;
+      faulted = p.faulted;
+      answers = λ e. subst (λ (g : Option ℕ). Answers (numbers_of j.log.replies ++ (option_to_list g ++ j.left))
+          o.faulted o.log.replies) (sym none) (p.answers e);
+    }
+
+-- what it promises, step after step
+pub both_lead : (bounds : List Key) (source : Option (List ℕ)) (a b : Working) (o : Output) → JobGoesOn a b
+    → (is_some source ≡ true → is_away a.stands ≡ false → Leads bounds source a.stands a.log b.log b.stands)
+    → Promises b o × WillPlay bounds source b o → Promises a o × WillPlay bounds source a o
+both_lead bounds source a b o goes on (promises, plays) = (
+  leads a b o goes promises,
+  record {
+    plays = λ known here unlost.
+        let l = on known here in
+        leads_out bounds source a.stands b.stands a.log b.log o.log o.last (promises.kept unlost) l
+        (plays.plays known l.stands unlost);
+  },
+)
+
 -- whether a transfer is on its way
 pub transferring : {F L M : Type 0} (state : JobState F L M) (number : M → ℕ)
     → is_transfer state ≡ is_some (going_of state number)
@@ -284,3 +341,22 @@ transferring (Free seat) number = refl
 transferring (Live session) number = refl
 transferring (Transfer transfer) number = refl
 transferring Taken number = refl
+
+pub transfer_stands : {L M : Type 0} (state : JobState Known L M) (session : L → Seated) (moves : M → Moving)
+    → is_transfer state ≡ is_moving (where_of state session moves)
+transfer_stands (Free seat) session moves = refl
+transfer_stands (Live s) session moves = refl
+transfer_stands (Transfer transfer) session moves = refl
+transfer_stands Taken session moves = refl
+
+-- where no transfer is, none is on its way
+pub none_moves : {L M : Type 0} (state : JobState Known L M) (session : L → Seated) (moves : M → Moving) (m : Moving)
+    → ((transfer : M) → state ≡ Transfer transfer → ⊥) → moving m ≡ where_of state session moves → ⊥
+none_moves {L} {M} state session moves m none is = by state none (ap is_moving is)
+  where
+    by : (s : JobState Known L M) → ((transfer : M) → s ≡ Transfer transfer → ⊥)
+        → true ≡ is_moving (where_of s session moves) → ⊥
+    by (Free seat) none e = cc (e)
+    by (Live session) none e = cc (e)
+    by (Transfer transfer) none e = none transfer refl
+    by Taken none e = cc (e)

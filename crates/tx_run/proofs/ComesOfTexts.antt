@@ -8,13 +8,14 @@ use Rattle.tx_workload.specs.ScriptLines.{KeepsText, firsts_of, opening_of, sess
 use Rattle.tx_workload.specs.declared.reply.LineReply.{LineReply}
 use Rattle.tx_run.specs.Jobs.{ComesOf, ComesOfText}
 
-pub comes_of_text : (source : Option (List ℕ)) (lines : List (List ℕ)) (others : List ℕ) (between : List Key)
+pub comes_of_text : (source : Option (List ℕ)) (lines : List (List ℕ)) (others : List ℕ) (between bounds : List Key)
     (h : History) (replies : List LineReply) → KeepsText source lines others between
-    → ComesOf (opening_of between ++ others) lines h replies → ComesOfText source h replies
-comes_of_text None lines others between h replies keeps comes = (opening_of between ++ others, lines, comes)
-comes_of_text (Some text) lines others between h replies keeps comes =
+    → ComesOf bounds source (opening_of between ++ others) lines h replies → ComesOfText source bounds h replies
+comes_of_text None lines others between bounds h replies keeps comes = (opening_of between ++ others, lines, comes)
+comes_of_text (Some text) lines others between bounds h replies keeps comes =
     let firsts : opening_of between ++ others ≡ firsts_of (lines_of text) =
     ap (λ (b : List Key). opening_of b ++ others) keeps.bounds
     ∙ ap (λ (o : List ℕ). opening_of (bounds_of (lines_of text)) ++ o) keeps.seeds in
-    subst (λ (f : List ℕ). ComesOf f (sessions_of (lines_of text)) h replies) firsts
-    (subst (λ (l : List (List ℕ)). ComesOf (opening_of between ++ others) l h replies) keeps.sessions comes)
+    subst (λ (f : List ℕ). ComesOf bounds (Some text) f (sessions_of (lines_of text)) h replies) firsts
+    (subst (λ (l : List (List ℕ)). ComesOf bounds (Some text) (opening_of between ++ others) l h replies) keeps.sessions
+    comes)

@@ -2,7 +2,9 @@
 pub mod AllAnswers
 pub mod AnsweredLines
 pub mod ComesOfTexts
+pub mod Leads
 pub mod LinesLeft
 pub mod OwnLines
 pub mod OwnSeats
+pub mod Played
 pub mod Totals

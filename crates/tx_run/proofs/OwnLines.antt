@@ -19,7 +19,7 @@ use Rattle.tx_steps.specs.declared.delivery.Delivery.{Delivery}
 use Rattle.tx_steps.specs.declared.op.Op.{Op}
 use Rattle.tx_steps.specs.declared.step.Step.{Step}
 use Rattle.tx_steps.specs.declared.step.Step.TheVariants as step
-use Rattle.tx_steps.specs.Steps.{Text, said}
+use Rattle.tx_steps.specs.Steps.{Text}
 use Rattle.tx_steps.specs.Lines.{data_said, step_in}
 use Rattle.tx_evidence.specs.Buffers.{AllBy}
 use Rattle.tx_evidence.specs.Lines.{step_by}

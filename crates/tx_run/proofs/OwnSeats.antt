@@ -1,18 +1,21 @@
 -- Each session has a seat of its own.
-use Rattle.std.proofs.Common.{◌≡◌, inl, inr, map, false, None, Option, option_map, ℕ, ◌+◌, ◌*◌, ◌<◌, ◌≤◌, List, [], ◌∷◌, ◌++◌, length, get_or, Some, Result, Ok, Err, IfOk, refl, sym, ap, subst, ◌∙◌, arith, length-append}
+use Rattle.std.proofs.Common.{◌≡◌, inl, inr, map, false, None, Option, option_map, ℕ, ◌+◌, ◌*◌, ◌<◌, List, [], ◌∷◌, ◌++◌, length, get_or, Some, Result, Ok, Err, IfOk, refl, sym, ap, subst, ◌∙◌, arith, length-append}
 use Rattle.std.specs.List.{slice_get}
 use Rattle.std.proofs.lemmas.Bool.{cases_lt}
 use Rattle.std.proofs.lemmas.List.{get_or_append_left, get_or_push}
 use Rattle.std.proofs.lemmas.Option.{slice_get_within, get_or_from_slice_get, slice_get_read, slice_get-get_or, slice_get-map, same_Some}
 use Rattle.std.proofs.lemmas.List.{length-map, map-append}
-use Rattle.tx_journal.specs.Known.{Known, known}
-use Rattle.tx_run.specs.Jobs.{Working, Output, HaveOwnSeats, AreAnswered, AreFalling, AreFrom, Promises, job_lines}
+use Rattle.tx_journal.specs.Known.{Known}
+use Rattle.tx_run.specs.Jobs.{Working, Output, HaveOwnSeats, AreAnswered, AreFalling, AreFrom, ArePlayed, IsFresh, Promises, WillPlay, job_lines}
+use Rattle.tx_types.specs.declared.key.Key.{Key}
+use Rattle.tx_run.specs.Played.{SessionPlays, fresh}
+use Rattle.tx_run.proofs.Leads.{fresh_plays}
 use Rattle.tx_workload.specs.Answers.{Answers}
 
 -- one more job, of a seat two below the last
 pub own_push : (last : ℕ) (jobs : List Working) (job : Working) → HaveOwnSeats last jobs → job.number ≡ length jobs
-    → job.log.seat + 2 * length jobs ≡ last → HaveOwnSeats last (jobs ++ job ∷ [])
-own_push last jobs job have number seat k j e =
+    → job.log.seat + 2 * length jobs ≡ last → IsFresh job → HaveOwnSeats last (jobs ++ job ∷ [])
+own_push last jobs job have number seat fresh k j e =
     let within = slice_get_within (jobs ++ job ∷ []) k j e in
     let at : get_or (jobs ++ job ∷ []) k j ≡ j = get_or_from_slice_get (jobs ++ job ∷ []) k j j e in
     elim (cases_lt k (length jobs)) [
@@ -21,9 +24,10 @@ own_push last jobs job have number seat k j e =
       | inr ge ↦
           let is : length jobs ≡ k = omega (arith, within, length-append jobs (job ∷ [])) in
           let same : job ≡ j = sym (get_or_push jobs job j k is) ∙ at in
-          subst (λ (x : Working). (x.number ≡ k) × (x.log.seat + 2 * k ≡ last)) same (
+          subst (λ (x : Working). (x.number ≡ k) × (x.log.seat + 2 * k ≡ last) × IsFresh x) same (
             number ∙ is,
             subst (λ n. job.log.seat + 2 * n ≡ last) is seat,
+            fresh,
           )
     ]
 
@@ -109,10 +113,15 @@ module _ (first : ℕ) (all mid rest : List Known) (seat resolver : Known) (one 
   pub two_rest : AreFrom first rest
   two_rest = front_from first mid rest resolver two (front_from first all mid seat one from)
 
+  last_is : seat ≡ fresh (first + length mid)
+  last_is = from (length mid) seat (subst (λ l. slice_get l (length mid) ≡ Some seat) (sym one) (at_end mid seat))
+
+  pub two_fresh : seat ≡ fresh seat.seat
+  two_fresh = last_is ∙ ap fresh (sym (ap (λ (x : Known). x.seat) last_is))
+
   pub two_seat : (seat.seat + 1 ≡ first + length all) × (length rest + 2 ≡ length all)
   two_seat =
-      let number : seat.seat ≡ first + length mid =
-      from (length mid) seat (subst (λ l. slice_get l (length mid) ≡ Some seat) (sym one) (at_end mid seat)) in
+      let number : seat.seat ≡ first + length mid = ap (λ (x : Known). x.seat) last_is in
       let a : length all ≡ length mid + 1 = ap length one ∙ length-append mid (seat ∷ []) in
       let b : length mid ≡ length rest + 1 = ap length two ∙ length-append rest (resolver ∷ []) in
       (omega (arith, number, a), omega (arith, a, b))
@@ -122,11 +131,28 @@ pub if_ok : {T E : Type 0} {P Q : T → Type 0} (r : Result T E) → ((x : T) �
 if_ok (Ok x) then_so p = then_so x p
 if_ok (Err e) then_so p = tt
 
--- seats that were dealt in their order have the numbers from the first one's on
-pub from_dealt : (first ticks : ℕ) (seats : List Known)
-    → ((k : ℕ) → k < length seats → slice_get seats k ≡ Some (known (first + k) ticks [])) → AreFrom first seats
-from_dealt first ticks seats dealt k s e =
+-- seats that were dealt in their order have the numbers from the first one's on, and know nothing
+pub from_dealt : (first : ℕ) (seats : List Known)
+    → ((k : ℕ) → k < length seats → slice_get seats k ≡ Some (fresh (first + k))) → AreFrom first seats
+from_dealt first seats dealt k s e =
     let d = dealt k (slice_get_within seats k s e) in
-    let same : s ≡ known (first + k) ticks [] =
-    sym (get_or_from_slice_get seats k s s e) ∙ get_or_from_slice_get seats k (known (first + k) ticks []) s d in
-    ap (λ (x : Known). x.seat) same
+    sym (get_or_from_slice_get seats k s s e)
+    ∙ get_or_from_slice_get seats k (fresh (first + k)) s d
+
+-- each result is of a play from its job's fresh seat
+pub played_outputs : (bounds : List Key) (source : Option (List ℕ)) (last : ℕ) (jobs : List Working)
+    (outputs : List Output) → HaveOwnSeats last jobs → length outputs ≡ length jobs
+    → ((index : ℕ) (job : Working) (output : Output) → slice_get jobs index ≡ Some job
+    → slice_get outputs index ≡ Some output → Promises job output × WillPlay bounds source job output)
+    → ArePlayed bounds source outputs
+played_outputs bounds source last jobs outputs own len kept k output of_out is_known unlost =
+    from_job (slice_get jobs k) refl
+  where
+    from_job : (o : Option Working) → slice_get jobs k ≡ o
+        → SessionPlays bounds source output.log.seat output.log.replies output.last
+    from_job (Some job) of_job =
+        let both = kept k job output of_job of_out in
+        fresh_plays bounds source job output (own k job of_job).2 both.0.seat (both.1.plays is_known)
+        unlost
+    from_job None of_job =
+        absurd (there jobs k (subst (λ (n : ℕ). k < n) len (slice_get_within outputs k output of_out)) of_job)

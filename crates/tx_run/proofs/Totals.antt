@@ -1,11 +1,12 @@
 -- The sum of all balances is read after what was told.
-use Rattle.std.proofs.Common.{ℕ, ◌≤◌, List, All}
+use Rattle.std.proofs.Common.{◌≡◌, ℕ, ◌≤◌, List, ap, ◌∙◌}
 use Rattle.tx_types.specs.declared.key.Key.{Key}
 use Rattle.tx_core.specs.declared.event.Event.TheVariants.{Answered}
 use Rattle.tx_core.specs.declared.event.Outcome.TheVariants as outcome
 use Rattle.tx_core.specs.Histories.{History, Among}
 use Rattle.tx_core.specs.Worlds.{IsWorldRun}
 use Rattle.tx_core.proofs.seats.Beginnings.{begins_all}
+use Rattle.tx_journal.specs.Known.{Seen}
 use Rattle.tx_transfer.specs.Totals.{IsTotal}
 use Rattle.tx_workload.specs.declared.reply.LineAnswer.{LineAnswer}
 use Rattle.tx_workload.specs.declared.reply.LineAnswer.TheVariants.{Plain, Ended}
@@ -29,3 +30,9 @@ tells_total bounds before known replies total told run is = record {
   after = λ k d lt. lies_upto before is.at is.above _ (told.told k d lt);
   sum = is.sums known (begins_all known) run;
 }
+
+-- what was seen is of these keys and events
+pub seen_is : (seen : Seen) (bounds : List Key) (h : History) → seen.bounds ≡ bounds → seen.events ≡ h
+    → seen ≡ seen_in bounds h
+seen_is seen bounds h keys events = ap (λ (b : List Key). seen_in b seen.events) keys
+    ∙ ap (λ (e : History). seen_in bounds e) events

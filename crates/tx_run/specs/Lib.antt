@@ -1,4 +1,7 @@
 pub mod Jobs
 pub mod Latches
+pub mod Played
 pub mod States
+pub mod Sums
 pub mod Texts
+pub mod Transfers

@@ -1,6 +1,9 @@
--- What is on its way in a job, and what its session has entered.
-use Rattle.std.specs.Prelude.{ℕ, Bool, true, false, [], Option, Some, None}
-use Rattle.tx_transaction.specs.Buffers.{Entries}
+-- What is on its way in a job, and where its session stands.
+use Rattle.std.specs.Prelude.{ℕ, Bool, true, false, Option, Some, None}
+use Rattle.tx_client.specs.Calls.{Seated}
+use Rattle.tx_journal.specs.Known.{Known}
+use Rattle.tx_transfer.specs.TransferSteps.{Moving}
+use Rattle.tx_run.specs.Played.{Where, at, moving, away, free, live}
 use Rattle.tx_run.specs.declared.state.JobState.{JobState}
 use Rattle.tx_run.specs.declared.state.JobState.TheVariants.{Free, Live, Transfer, Taken}
 
@@ -18,9 +21,9 @@ is_transfer (Live session) = false
 is_transfer (Transfer transfer) = true
 is_transfer Taken = false
 
--- the buffer of the session that is live, if one is
-abbrev pub buffer_of : {F L M : Type 0} → JobState F L M → (L → Entries) → Entries
-buffer_of (Free seat) buffer = []
-buffer_of (Live session) buffer = buffer session
-buffer_of (Transfer transfer) buffer = []
-buffer_of Taken buffer = []
+-- where its session stands
+abbrev pub where_of : {L M : Type 0} → JobState Known L M → (L → Seated) → (M → Moving) → Where
+where_of (Free seat) session moves = at (free seat)
+where_of (Live s) session moves = at (live (session s))
+where_of (Transfer transfer) session moves = moving (moves transfer)
+where_of Taken session moves = away

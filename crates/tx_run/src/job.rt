@@ -1,14 +1,20 @@
 //! A session of a run, as a job of the workers: each line is a step. A transfer is mostly two: its
 //! reads, and then its writes.
-ghost use Rattle.std.specs.Prelude.{◌≡◌, ◌∷◌, map, is_some, [], None, Ok, true, false, IfErr, IfNone, IfOk, IfSome, OnErr, OnOk};
-ghost use Rattle.tx_run.specs.Jobs.{JobGoesOn, MayAnswer, Promises, job_lines, with_line};
+ghost use Rattle.std.specs.Prelude.{◌≡◌, ◌∷◌, map, is_some, [], None, Some, Ok, Err, true, false, IfErr, IfNone, IfOk, IfSome, OnErr, OnOk};
+ghost use Rattle.tx_run.specs.Jobs.{JobGoesOn, MayAnswer, Promises, WillPlay, job_lines, with_line};
+ghost use Rattle.tx_run.specs.Played.{Leads, Standing, WasMade, at, away, buffer_at, free, is_away, is_moving, known_at};
+ghost use Rattle.tx_client.specs.Calls.{HasHeard};
+ghost use Rattle.tx_core.specs.declared.event.Outcome.{Outcome};
+ghost use Rattle.tx_transaction.specs.Sessions.{finish_of};
+ghost use Rattle.tx_workload.specs.Logs.{HasFinished, KeepsAnswer};
+ghost use Rattle.tx_transfer.specs.Replies.{said_of};
 ghost use Rattle.tx_workload.specs.LineNumbers.{number_of};
 ghost use Rattle.tx_workload.specs.Logs.{answer_to};
-ghost use Rattle.tx_run.specs.States.{going_of, buffer_of};
+ghost use Rattle.tx_run.specs.States.{going_of, where_of};
 ghost use Rattle.tx_workload.specs.Readers.{HasSession};
 ghost use Rattle.tx_workload.specs.Tells.{AreEntered, AreOf, ComeLater, EnteredBy, TellsLine, is_refusal, session_name};
 ghost use Rattle.tx_workload.specs.Steps.{SaysStep};
-ghost use Rattle.tx_workload.specs.declared.reply.LineAnswer.TheVariants.{Plain};
+ghost use Rattle.tx_workload.specs.declared.reply.LineAnswer.TheVariants.{Plain, Ended};
 ghost use Rattle.tx_core.specs.Histories.{Begins};
 ghost use Rattle.tx_evidence.specs.Buffers.{AllBy};
 ghost use Rattle.tx_transfer.specs.Sources.{HasPair};
@@ -26,7 +32,7 @@ use std::sync::Wait;
 use tx_cells::Families;
 use tx_client::Session;
 use tx_core::Answer;
-use tx_journal::{JournalId, Seat};
+use tx_journal::{JournalId, Seat, Told};
 use tx_latch::Slot;
 use tx_ops::{SessionStage, ending_name};
 use tx_reply::ScriptReply;
@@ -39,7 +45,7 @@ use tx_types::{Cause, Fault, Key};
 use tx_workload::{RunLog, SessionLine};
 
 /// A session, the lines that are left of it, and what was answered. Contracts see its number, its
-/// log, which lines are left, whether a transfer is on its way, what is entered, and whether a
+/// log, which lines are left, whether a transfer is on its way, where it stands, and whether a
 /// fault ended it.
 #[derive(Drop)]
 pub(crate) struct ScriptJob<J: JournalId, L: Source, F: Families + Drop, R: Wait + Drop> {
@@ -61,7 +67,8 @@ impl<J: JournalId, L: Source, F: Families + Drop, R: Wait + Drop> Model for Scri
     ghost use Rattle.std.specs.Prelude.{map, reverse};
     ghost use Rattle.tx_run.specs.Jobs.{IsSound, Working};
     ghost use Rattle.tx_workload.specs.LineNumbers.{number_of};
-    ghost use Rattle.tx_run.specs.States.{going_of, buffer_of};
+    ghost use Rattle.tx_run.specs.States.{going_of, where_of};
+    ghost use Rattle.tx_run.specs.Played.{buffer_at};
     ghost use Rattle.tx_workload.specs.Tells.{Owns};
 
     ghost Value = { Working };
@@ -69,21 +76,21 @@ impl<J: JournalId, L: Source, F: Families + Drop, R: Wait + Drop> Model for Scri
     ghost view = { λ j. record {
       number = j.number;
       log = j.log;
-      going = going_of j.state (λ transfer. transfer.value);
+      going = going_of j.state (λ transfer. transfer.value.number);
       left = map number_of (reverse j.lines.items);
-      entered = buffer_of j.state (λ session. session.value.state.buffer);
+      stands = where_of j.state (λ session. session.value) (λ transfer. transfer.value);
       faulted = j.faulted;
     } };
 
     ghost invariant = { λ j. IsSound (record {
       number = j.number;
       log = j.log;
-      going = going_of j.state (λ transfer. transfer.value);
+      going = going_of j.state (λ transfer. transfer.value.number);
       left = map number_of (reverse j.lines.items);
-      entered = buffer_of j.state (λ session. session.value.state.buffer);
+      stands = where_of j.state (λ session. session.value) (λ transfer. transfer.value);
       faulted = j.faulted;
     }) × Owns L.text j.number (map number_of (reverse j.lines.items))
-        (buffer_of j.state (λ session. session.value.state.buffer)) };
+        (buffer_at (where_of j.state (λ session. session.value) (λ transfer. transfer.value))) };
 }
 
 impl<J: JournalId, L: Source, F: Families + Drop, R: Wait + Drop> ScriptJob<J, L, F, R> {
@@ -98,6 +105,8 @@ impl<J: JournalId, L: Source, F: Families + Drop, R: Wait + Drop> ScriptJob<J, L
         requires { AreOf L.text number (map number_of lines.items) }
         ensures job { IfOk result (λ job. (job.number ≡ number) × (job.log.seat ≡ seat.seat)) }
         ensures lines { IfOk result (λ job. job_lines job ≡ map number_of lines.items) }
+        ensures stands { IfOk result (λ job. job.stands ≡ at (free seat)) }
+        ensures none { IfOk result (λ job. job.log.replies ≡ []) }
         ensures err { IfErr result (λ e. e ≡ Fault.OutOfMemory) }
     {
         let alloc = context.alloc;
@@ -119,12 +128,12 @@ impl<J: JournalId, L: Source, F: Families + Drop, R: Wait + Drop> ScriptJob<J, L
 
     // Is in this state from now on.
     fn set_state(&mut self, state: JobState<Seat<J>, Box<Session<J>>, Box<TransferState<J, L>>>)
-        requires over { self.old.faulted ≡ true → going_of state (λ transfer. transfer.value) ≡ None }
+        requires over { self.old.faulted ≡ true → going_of state (λ transfer. transfer.value.number) ≡ None }
         requires own { AreEntered L.text self.old.number self.old.left
-            (buffer_of state (λ session. session.value.state.buffer)) }
+            (buffer_at (where_of state (λ session. session.value) (λ transfer. transfer.value))) }
         ensures { self.new ≡ record self.old {
-          going = going_of state (λ transfer. transfer.value);
-          entered = buffer_of state (λ session. session.value.state.buffer);
+          going = going_of state (λ transfer. transfer.value.number);
+          stands = where_of state (λ session. session.value) (λ transfer. transfer.value);
         } }
     {
         drop(replace(&mut self.state, state));
@@ -132,12 +141,12 @@ impl<J: JournalId, L: Source, F: Families + Drop, R: Wait + Drop> ScriptJob<J, L
 
     // Takes the state, while it acts.
     fn take_state(&mut self) -> JobState<Seat<J>, Box<Session<J>>, Box<TransferState<J, L>>>
-        ensures state { going_of result (λ transfer. transfer.value) ≡ self.old.going }
-        ensures entered { buffer_of result (λ session. session.value.state.buffer) ≡ self.old.entered }
+        ensures state { going_of result (λ transfer. transfer.value.number) ≡ self.old.going }
+        ensures entered { where_of result (λ session. session.value) (λ transfer. transfer.value) ≡ self.old.stands }
         ensures own { AreEntered L.text self.old.number self.old.left
-            (buffer_of result (λ session. session.value.state.buffer)) }
+            (buffer_at (where_of result (λ session. session.value) (λ transfer. transfer.value))) }
         ensures over { self.old.faulted ≡ true → self.old.going ≡ None }
-        ensures taken { self.new ≡ record self.old { going = None; entered = [] } }
+        ensures taken { self.new ≡ record self.old { going = None; stands = away } }
     {
         replace(&mut self.state, JobState::Taken)
     }
@@ -158,6 +167,7 @@ impl<J: JournalId, L: Source, F: Families + Drop, R: Wait + Drop> ScriptJob<J, L
         ensures job { self.new ≡ record self.old { log = record self.old.log { told = self.new.log.told } } }
         ensures knows { Begins session.old.seat.events self.new.log.told }
         ensures state { session.new.state ≡ session.old.state }
+        ensures heard { HasHeard J.bounds session.old.seat self.old.log.told session.new.seat }
     {
         self.log.hear(self.context.resolver(), session);
     }
@@ -166,7 +176,9 @@ impl<J: JournalId, L: Source, F: Families + Drop, R: Wait + Drop> ScriptJob<J, L
     fn report(&mut self, number: u64, plain: PlainReply)
         requires may { MayAnswer self.old }
         requires tells { TellsLine L.text J.bounds self.old.log.told (answer_to number (Plain (Ok plain))) }
-        ensures { JobGoesOn (with_line number self.old) self.new }
+        ensures goes { JobGoesOn (with_line number self.old) self.new }
+        ensures kept { KeepsAnswer self.old.log number (Plain (Ok plain)) self.new.log }
+        ensures stands { self.new.stands ≡ self.old.stands }
     {
         self.meet(&plain);
         self.log.keep(number, Ok(plain));
@@ -177,7 +189,9 @@ impl<J: JournalId, L: Source, F: Families + Drop, R: Wait + Drop> ScriptJob<J, L
         requires may { MayAnswer self.old }
         requires says { SaysStep L.text number }
         requires refusal { is_refusal plain.reply ≡ true }
-        ensures { JobGoesOn (with_line number self.old) self.new }
+        ensures goes { JobGoesOn (with_line number self.old) self.new }
+        ensures answered { KeepsAnswer self.old.log number (Plain (Ok plain)) self.new.log }
+        ensures stands { self.new.stands ≡ self.old.stands }
     {
         self.report(number, plain);
     }
@@ -200,7 +214,9 @@ impl<J: JournalId, L: Source, F: Families + Drop, R: Wait + Drop> ScriptJob<J, L
     // A fault of the script ends the session.
     fn fail(&mut self, number: u64, cause: Cause)
         requires { MayAnswer self.old }
-        ensures { JobGoesOn (with_line number self.old) self.new }
+        ensures goes { JobGoesOn (with_line number self.old) self.new }
+        ensures kept { KeepsAnswer self.old.log number (Plain (Err cause)) self.new.log }
+        ensures stands { self.new.stands ≡ self.old.stands }
     {
         self.faulted = true;
         self.lines.clear();
@@ -211,7 +227,10 @@ impl<J: JournalId, L: Source, F: Families + Drop, R: Wait + Drop> ScriptJob<J, L
     fn on_answer(&mut self, number: u64, answer: Result<PlainReply, Cause>)
         requires may { MayAnswer self.old }
         requires tells { TellsLine L.text J.bounds self.old.log.told (answer_to number (Plain answer)) }
-        ensures { JobGoesOn (with_line number self.old) self.new }
+        requires made { WasMade J.bounds L.text self.old.log.told number (said_of answer) }
+        ensures goes { JobGoesOn (with_line number self.old) self.new }
+        ensures kept { KeepsAnswer self.old.log number (Plain answer) self.new.log }
+        ensures stands { self.new.stands ≡ self.old.stands }
     {
         match answer {
             Ok(plain) => self.report(number, plain),
@@ -232,14 +251,45 @@ impl<J: JournalId, L: Source, F: Families + Drop, R: Wait + Drop> ScriptJob<J, L
         requires says { SaysStep L.text number }
         ensures kept { OnOk result (JobGoesOn (with_line number self.old) self.new × MayAnswer self.new) }
         ensures none { OnErr result (self.new ≡ self.old) }
+        ensures finished { IfOk result (λ seat. (o : Outcome) × HasFinished J.bounds session self.old.log.told o seat
+            × KeepsAnswer self.old.log number (Ended session.state.start o keys) self.new.log) }
+        ensures open_yet { IfErr result (λ s. (finish_of session.state ≡ None) × (s.state ≡ session.state)
+            × HasHeard J.bounds session.seat self.old.log.told s.seat) }
     {
         self.log
             .finish(self.context.resolver(), number, session, keys)
     }
 
+    // What the session's seat knows at last. The session is then over.
+    fn tell_last(&mut self) -> Option<Told<J>>
+        ensures job { self.new ≡ record self.old { going = None; stands = away } }
+        ensures knows { (s : Standing) → self.old.stands ≡ at s → result ≡ Some (known_at s).events }
+    {
+        match self.take_state() {
+            JobState::Free(mut seat) => Some(seat.tell()),
+            JobState::Live(mut session) => Some(session.tell()),
+            JobState::Transfer(..) | JobState::Taken => None,
+        }
+    }
+
+    // What it came to.
     fn output(&mut self) -> JobOutput<J, L>
+        requires over { (self.old.left ≡ []) × (self.old.going ≡ None) }
+        requires still { is_moving self.old.stands ≡ false }
+        ensures number { result.number ≡ self.old.number }
+        ensures promised { Promises self.old result }
+        ensures plays { WillPlay J.bounds L.text self.old result }
+    {
+        let last = self.tell_last();
+        self.hand_out(last)
+    }
+
+    // Hands out its log, and what its seat knew at last.
+    fn hand_out(&mut self, last: Option<Told<J>>) -> JobOutput<J, L>
         requires { (self.old.left ≡ []) × (self.old.going ≡ None) }
         ensures number { result.number ≡ self.old.number }
+        ensures log { result.log ≡ self.old.log }
+        ensures last { result.last ≡ last }
         ensures promised { Promises self.old result }
     {
         let empty = Vec::new(self.context.alloc);
@@ -251,6 +301,7 @@ impl<J: JournalId, L: Source, F: Families + Drop, R: Wait + Drop> ScriptJob<J, L
             stage: self.stage,
             collected: self.collector.dropped(),
             refusals: self.context.refusals(),
+            last,
         }
     }
 
@@ -262,7 +313,7 @@ impl<J: JournalId, L: Source, F: Families + Drop, R: Wait + Drop> ScriptJob<J, L
             (λ line. HasSession L.text (number_of line) (session_name L.text self.new.number)) }
         ensures later { IfSome result (λ line. ComeLater L.text (number_of line) self.new.left) }
         ensures entered { IfSome result
-            (λ line. AllBy (EnteredBy L.text self.new.number (number_of line)) self.new.entered) }
+            (λ line. AllBy (EnteredBy L.text self.new.number (number_of line)) (buffer_at self.new.stands)) }
         ensures none { IfNone result (self.new ≡ self.old) }
     {
         self.lines.pop()
@@ -270,7 +321,9 @@ impl<J: JournalId, L: Source, F: Families + Drop, R: Wait + Drop> ScriptJob<J, L
 
     // Makes a line, unless a transfer is on its way.
     fn begin_line(&mut self)
-        ensures { JobGoesOn self.old self.new }
+        ensures goes { JobGoesOn self.old self.new }
+        ensures plays { is_some L.text ≡ true → is_away self.old.stands ≡ false
+            → Leads J.bounds L.text self.old.stands self.old.log self.new.log self.new.stands }
     {
         if self.is_transferring() {
             return;
@@ -283,12 +336,14 @@ impl<J: JournalId, L: Source, F: Families + Drop, R: Wait + Drop> ScriptJob<J, L
     // Makes a line, unless a transfer is on its way, and the next requests of a transfer: where it
     // has just begun, these ask for no latch.
     fn advance(&mut self)
-        ensures { JobGoesOn self.old self.new }
+        ensures goes { JobGoesOn self.old self.new }
+        ensures plays { is_some L.text ≡ true → is_away self.old.stands ≡ false
+            → Leads J.bounds L.text self.old.stands self.old.log self.new.log self.new.stands }
     {
         self.begin_line();
-        let progress = self.advance_transfer();
-        if progress != TransferProgress::More {
-            self.finish_transfer(progress);
+        match self.advance_transfer() {
+            TransferProgress::More => {}
+            progress => self.finish_transfer(progress),
         }
     }
 
@@ -302,21 +357,23 @@ impl<J: JournalId, L: Source, F: Families + Drop, R: Wait + Drop> ScriptJob<J, L
     }
 
     fn is_transferring(&self) -> bool
-        ensures { result ≡ is_some self.now.going }
+        ensures going { result ≡ is_some self.now.going }
+        ensures stands { result ≡ is_moving self.now.stands }
     {
         self.state.is_transfer()
     }
 
     // Whether it has nothing left to do.
     fn is_done(&self) -> bool
-        ensures { result ≡ true → (self.now.left ≡ []) × (self.now.going ≡ None) }
+        ensures over { result ≡ true → (self.now.left ≡ []) × (self.now.going ≡ None) }
+        ensures still { result ≡ true → is_moving self.now.stands ≡ false }
     {
         self.lines.is_empty() && !self.is_transferring()
     }
 }
 
 impl<J: JournalId, L: Source, F: Families + Drop, R: Wait + Drop> Job for ScriptJob<J, L, F, R> {
-    ghost use Rattle.tx_run.specs.Jobs.{Promises};
+    ghost use Rattle.tx_run.specs.Jobs.{Promises, WillPlay};
 
     type Out = JobOutput<J, L>;
 
@@ -324,7 +381,7 @@ impl<J: JournalId, L: Source, F: Families + Drop, R: Wait + Drop> Job for Script
 
     ghost tells = { λ o. o.number };
 
-    ghost promised = { λ j o. Promises j o };
+    ghost promised = { λ j o. Promises j o × WillPlay J.bounds L.text j o };
 
     fn number(&self) -> u32 {
         self.number

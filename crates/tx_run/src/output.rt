@@ -1,13 +1,13 @@
 //! What comes of a session of a run.
 use std::alloc::Global;
 use std::marker::Model;
-use tx_journal::JournalId;
+use tx_journal::{JournalId, Told};
 use tx_ops::SessionStage;
 use tx_transfer::{Refusals, Source};
 use tx_workload::RunLog;
 
-/// What came of a session's lines. Contracts see its number, its log and whether a fault of the
-/// script ended it.
+/// What came of a session's lines. Contracts see its number, its log, whether a fault of the
+/// script ended it, and what its seat knew at last.
 #[derive(Drop)]
 pub(crate) struct JobOutput<J: JournalId, L: Source> {
     pub number: u32,
@@ -20,6 +20,8 @@ pub(crate) struct JobOutput<J: JournalId, L: Source> {
     pub collected: u64,
     /// What stood in its way.
     pub refusals: Refusals,
+    /// What its seat knew at last.
+    pub last: Option<Told<J>>,
 }
 
 impl<J: JournalId, L: Source> Model for JobOutput<J, L> {
@@ -27,7 +29,7 @@ impl<J: JournalId, L: Source> Model for JobOutput<J, L> {
 
     ghost Value = { Output };
 
-    ghost view = { λ o. record { number = o.number; log = o.log; faulted = o.faulted } };
+    ghost view = { λ o. record { number = o.number; log = o.log; faulted = o.faulted; last = o.last } };
 }
 
 /// How many write records were collected.

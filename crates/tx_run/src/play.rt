@@ -3,7 +3,9 @@ ghost use Rattle.std.specs.Prelude.{◌≡◌, ◌+◌, ◌≤◌, ◌++◌, [],
 ghost use Rattle.std.specs.List.{list_any};
 ghost use Rattle.tx_workload.specs.Answers.{IsReply, has_fault, numbers_of};
 ghost use Rattle.tx_workload.specs.Outcomes.{TellsOutcomes};
-ghost use Rattle.tx_run.specs.Jobs.{AreFalling, AreFrom, AreGathered, ComesOf};
+ghost use Rattle.tx_run.specs.Jobs.{AreFalling, AreFrom, AreGathered, ComesOf, IsOpened};
+ghost use Rattle.tx_run.specs.Played.{fresh};
+ghost use Rattle.tx_run.specs.Sums.{SumsBehind};
 ghost use Rattle.tx_workload.specs.LineNumbers.{numbers_in};
 ghost use Rattle.tx_workload.specs.ScriptLines.{opening_of};
 ghost use Rattle.tx_workload.specs.Scripts.{IsWithin};
@@ -59,6 +61,7 @@ fn sum_up<J: JournalId, L: Source, F: Families + Drop, R: Wait + Drop>(
     ensures told { IfOk result (λ r. TellsOutcomes r.1.events replies.now) }
     ensures tells { IfOk result (λ r. All (TellsLine L.text J.bounds r.1.events) replies.now) }
     ensures total { IfOk result (λ r. TellsTotal (seen_in J.bounds r.1.events) replies.now r.0) }
+    ensures sums { IfOk result (λ r. SumsBehind L.text (seen_in J.bounds r.1.events) replies.now r.0) }
     ensures knows { IfOk result (λ r. Begins seat.events r.1.events) }
 {
     let _ = replies;
@@ -107,7 +110,8 @@ fn set_out<J: JournalId, F: Families + Drop, M: Makes<F>, R: Wait + Clone + Drop
 ) -> Result<(Arc<Store<J, F>>, Context<J, F, R>, Seat<J>, Vec<Seat<J>>), Fault>
     requires name { (opened.table ≡ J.table) × (opened.bounds ≡ J.bounds) × (opened.seats ≡ J.seats) }
     requires count { regions ≡ length J.bounds + 1 }
-    ensures { IfOk result (λ r. AreFrom (length J.bounds + 1) r.3.items) }
+    ensures seats { IfOk result (λ r. AreFrom (length J.bounds + 1) r.3.items) }
+    ensures fresh { IfOk result (λ r. r.2 ≡ fresh r.2.seat) }
 {
     let (store, mut seats) = open::<J, F, M>(alloc, make, opened, regions)?;
     let store = Arc::new(alloc, store)?;
@@ -149,6 +153,8 @@ fn play_opening<J: JournalId, L: Source, F: Families + Drop, R: Wait + Drop>(
 ) -> Result<(Seat<J>, Replies), Broken>
     requires count { regions ≡ length J.bounds + 1 }
     requires opens { OpensWith L.text J.bounds }
+    requires fresh { seat ≡ fresh seat.seat }
+    ensures opened { IfOk result (λ r. IsOpened J.bounds L.text r.0.events r.1) }
     ensures tells { IfOk result (λ r. All (TellsLine L.text J.bounds r.0.events) r.1) }
     ensures quiet { IfOk result (λ r. All (λ s. IsReply s.answer) r.1) }
     ensures each { IfOk result
@@ -172,15 +178,17 @@ fn close<J: JournalId, L: Source, F: Families + Drop, R: Wait + Drop>(
     requires falling { AreFalling outputs.items }
     requires none { All (λ s. IsReply s.answer) replies }
     requires tells { All (TellsLine L.text J.bounds seat.events) replies }
+    requires opened { IsOpened J.bounds L.text seat.events replies }
     ensures told { IfOk result (λ played. TellsOutcomes played.seen.events played.replies) }
     ensures pairs { IfOk result (λ played. All (TellsPair L.text) played.replies) }
     ensures tells { IfOk result (λ played.
         All (TellsLine L.text played.seen.bounds played.seen.events) played.replies) }
     ensures bounds { IfOk result (λ played. played.seen.bounds ≡ J.bounds) }
     ensures gathered { IfOk result (λ played.
-        AreGathered (numbers_of replies) played.seen.events played.replies outputs.items
+        AreGathered J.bounds L.text (numbers_of replies) played.seen.events played.replies outputs.items
         × (played.faulted ≡ list_any (λ o. o.faulted) outputs.items)) }
     ensures total { IfOk result (λ played. TellsTotal played.seen played.replies played.total) }
+    ensures sums { IfOk result (λ played. SumsBehind L.text played.seen played.replies played.total) }
 {
     let collected = count_collected(outputs.as_slice());
     let refusals = count_refusals(outputs.as_slice());
@@ -227,10 +235,11 @@ where
         All (TellsLine L.text played.seen.bounds played.seen.events) played.replies) }
     ensures bounds { IfOk result (λ played. played.seen.bounds ≡ J.bounds) }
     ensures comes { IfOk result (λ played.
-        ComesOf (opening_of J.bounds ++ map (λ seed. seed.number) script.seeds.items)
+        ComesOf J.bounds L.text (opening_of J.bounds ++ map (λ seed. seed.number) script.seeds.items)
         (numbers_in script.sessions.items) played.seen.events played.replies) }
     ensures faulted { IfOk result (λ played. played.faulted ≡ has_fault played.replies) }
     ensures total { IfOk result (λ played. TellsTotal played.seen played.replies played.total) }
+    ensures sums { IfOk result (λ played. SumsBehind L.text played.seen played.replies played.total) }
 {
     let Lines {
         regions,
@@ -278,10 +287,12 @@ where
         All (TellsLine L.text played.seen.bounds played.seen.events) played.replies) }
     ensures bounds { IfOk result (λ played. played.seen.bounds ≡ script.bounds.items) }
     ensures comes { IfOk result (λ played.
-        ComesOf (opening_of script.bounds.items ++ map (λ seed. seed.number) script.seeds.items)
+        ComesOf script.bounds.items L.text
+        (opening_of script.bounds.items ++ map (λ seed. seed.number) script.seeds.items)
         (numbers_in script.sessions.items) played.seen.events played.replies) }
     ensures faulted { IfOk result (λ played. played.faulted ≡ has_fault played.replies) }
     ensures total { IfOk result (λ played. TellsTotal played.seen played.replies played.total) }
+    ensures sums { IfOk result (λ played. SumsBehind L.text played.seen played.replies played.total) }
 {
     let Script {
         bounds,

@@ -7,6 +7,7 @@ ghost use Rattle.tx_workload.specs.Tells.{AllTell};
 ghost use Rattle.tx_workload.specs.Totals.{TellsTotal};
 ghost use Rattle.tx_workload.specs.Answers.{has_fault};
 ghost use Rattle.tx_run.specs.Jobs.{ComesOfText};
+ghost use Rattle.tx_run.specs.Sums.{SumsBehind};
 ghost use Rattle.tx_workload.specs.Texts.{IsTextFrom, WritesText, WritesPart};
 ghost use Rattle.tx_run.specs.Texts.{IsRunText, end_of};
 
@@ -45,9 +46,12 @@ where
     ensures told { IfOk result (λ r. IfSome r.1 (λ played. TellsOutcomes played.seen.events played.replies)) }
     ensures pairs { IfOk result (λ r. IfSome r.1 (λ played. All (TellsPair L.text) played.replies)) }
     ensures tells { IfOk result (λ r. IfSome r.1 (λ played. AllTell L.text played.seen played.replies)) }
-    ensures comes { IfOk result (λ r. IfSome r.1 (λ played. ComesOfText L.text played.seen.events played.replies)) }
+    ensures comes { IfOk result (λ r. IfSome r.1
+        (λ played. ComesOfText L.text played.seen.bounds played.seen.events played.replies)) }
     ensures faulted { IfOk result (λ r. IfSome r.1 (λ played. played.faulted ≡ has_fault played.replies)) }
     ensures total { IfOk result (λ r. IfSome r.1 (λ played. TellsTotal played.seen played.replies played.total)) }
+    ensures sums { IfOk result
+        (λ r. IfSome r.1 (λ played. SumsBehind L.text played.seen played.replies played.total)) }
     ensures wrote { IfOk result
         (λ r. WritesText (W.contents writer.old) (W.contents writer.new) (IsRunText L.text r.1)) }
     ensures ends { IfOk result (λ r. r.0 ≡ end_of r.1) }
@@ -84,8 +88,10 @@ where
 /// transaction of a transfer that was committed or aborted declared changes of just the two keys
 /// that its line says. Each other reply tells of what all sessions had seen, or of what a line of
 /// the same name before it entered; a seed that is told to be done was declared as its put alone
-/// and answered as committed. The total is the sum of the balances that the one-step machine sees
-/// at one timestamp, at or above each commit that a line is told.
+/// and answered as committed. Where the script's bytes are known, seeds and sessions were played
+/// line by line, each line from what the one before it left, and each transfer by its own requests.
+/// The total is the sum of the balances that the one-step machine sees at one timestamp, at or
+/// above each commit that a line is told.
 pub fn run_script<F, M, G, R, B, W>(
     rt: &R,
     alloc: Global,
@@ -108,9 +114,12 @@ where
     ensures tells { IfOk result
         (λ r. IfSome r.1 (λ played. AllTell (B.remaining reader.old) played.seen played.replies)) }
     ensures comes { IfOk result
-        (λ r. IfSome r.1 (λ played. ComesOfText (B.remaining reader.old) played.seen.events played.replies)) }
+        (λ r. IfSome r.1 (λ played. ComesOfText (B.remaining reader.old) played.seen.bounds played.seen.events
+        played.replies)) }
     ensures faulted { IfOk result (λ r. IfSome r.1 (λ played. played.faulted ≡ has_fault played.replies)) }
     ensures total { IfOk result (λ r. IfSome r.1 (λ played. TellsTotal played.seen played.replies played.total)) }
+    ensures sums { IfOk result
+        (λ r. IfSome r.1 (λ played. SumsBehind (B.remaining reader.old) played.seen played.replies played.total)) }
     ensures wrote { IfOk result
         (λ r. WritesText (W.contents writer.old) (W.contents writer.new) (IsRunText (B.remaining reader.old) r.1)) }
     ensures ends { IfOk result (λ r. r.0 ≡ end_of r.1) }

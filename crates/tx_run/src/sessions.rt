@@ -1,9 +1,11 @@
 //! The sessions of a run: their jobs, which workers make side by side, and what these came to.
 ghost use Rattle.std.specs.Prelude.{◌≡◌, ◌+◌, ◌≤◌, All, IfOk, IfSome, OnOk, length, map, vec_len};
+ghost use Rattle.tx_core.specs.Histories.{Begins};
+ghost use Rattle.tx_run.specs.Played.{fresh};
 ghost use Rattle.std.specs.List.{list_any};
 ghost use Rattle.tx_workload.specs.Answers.{IsReply, numbers_of};
 ghost use Rattle.tx_workload.specs.Outcomes.{TellsOutcomes};
-ghost use Rattle.tx_run.specs.Jobs.{IsAbove, AreAnswered, AreFalling, AreFrom, AreGathered, HaveOwnSeats, Joins};
+ghost use Rattle.tx_run.specs.Jobs.{IsAbove, AreAnswered, AreFalling, AreFrom, AreGathered, ArePlayed, HaveOwnSeats, IsOpened, Joins};
 ghost use Rattle.tx_run.specs.Jobs.{job_lines};
 ghost use Rattle.tx_workload.specs.LineNumbers.{numbers_in};
 ghost use Rattle.tx_workload.specs.Pairs.{TellsPair};
@@ -16,7 +18,7 @@ use std::alloc::Global;
 use std::sync::{Arc, Wait};
 use std::thread::Threads;
 use tx_cells::Families;
-use tx_journal::{JournalId, Seat};
+use tx_journal::{JournalId, Seat, Told};
 use tx_sched::{Gate, run_sessions};
 use tx_store::Store;
 use tx_text::Broken;
@@ -30,6 +32,7 @@ pub(crate) fn two_seats<J: JournalId>(seats: &mut Vec<Seat<J>>) -> Option<(Seat<
     ensures rest { AreFrom (length J.bounds + 1) seats.new.items }
     ensures two { IfSome result (λ two. (vec_len seats.new + 2 ≡ vec_len seats.old)
         × (two.0.seat ≡ length J.bounds + vec_len seats.old)) }
+    ensures fresh { IfSome result (λ two. two.0 ≡ fresh two.0.seat) }
 {
     let seat = seats.pop()?;
     let resolver = seats.pop()?;
@@ -86,10 +89,21 @@ where
     requires own { AreOwn L.text (numbers_in sessions.items) }
     ensures falling { IfOk result (λ outputs. AreFalling outputs.items) }
     ensures answered { IfOk result (λ outputs. AreAnswered (numbers_in sessions.items) outputs.items) }
+    ensures played { IfOk result (λ outputs. ArePlayed J.bounds L.text outputs.items) }
 {
     let jobs = jobs(rt, alloc, store, seats, sessions, settings.life_time)?;
     let outputs = run_sessions(rt, alloc, settings.workers, jobs, gate)?;
     Ok(outputs)
+}
+
+// Knows what a session's seat knew at last.
+fn learn_last<J: JournalId>(seat: &mut Seat<J>, last: Option<Told<J>>)
+    ensures grew { Begins seat.old.events seat.new.events }
+    ensures knows { IfSome last (λ told. Begins told seat.new.events) }
+{
+    if let Some(told) = last {
+        seat.learn(told);
+    }
 }
 
 // Adds a session's log to the replies. Sessions come by falling seats. Returns whether a script
@@ -117,7 +131,9 @@ fn join<J: JournalId, L: Source>(
         stage: _,
         collected: _,
         refusals: _,
+        last,
     } = output;
+    learn_last(seat, last);
     let (told, more, lost) = log.into_parts();
     seat.learn(told);
     if lost {
@@ -136,10 +152,12 @@ pub(crate) fn gather<J: JournalId, L: Source>(
     requires falling { AreFalling outputs.items }
     requires none { All (λ s. IsReply s.answer) replies.old }
     requires tells { All (TellsLine L.text J.bounds seat.old.events) replies.old }
+    requires opened { IsOpened J.bounds L.text seat.old.events replies.old }
     ensures told { OnOk result (TellsOutcomes seat.new.events replies.new) }
     ensures pairs { OnOk result (All (TellsPair L.text) replies.new) }
     ensures tells { OnOk result (All (TellsLine L.text J.bounds seat.new.events) replies.new) }
-    ensures comes { OnOk result (AreGathered (numbers_of replies.old) seat.new.events replies.new outputs.items) }
+    ensures comes { OnOk result (AreGathered J.bounds L.text (numbers_of replies.old) seat.new.events replies.new
+        outputs.items) }
     ensures faulted { IfOk result (λ faulted. faulted ≡ list_any (λ o. o.faulted) outputs.items) }
 {
     let mut faulted = false;

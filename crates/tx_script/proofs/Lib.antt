@@ -32,3 +32,5 @@ pub mod NumberedLines
 pub mod NumberedEnds
 -- A line that is out of order, and how far the session of its step is.
 pub mod Stops
+-- A player that has a key shown stands where it stood.
+pub mod Peeks

@@ -4,10 +4,12 @@ use Rattle.serde_json.specs.Data.{Items}
 use Rattle.tx_types.specs.declared.fault.Cause.{Cause}
 use Rattle.tx_types.specs.declared.key.Key.{Key}
 use Rattle.tx_types.specs.declared.limits.TheConstants.{MAX_LIVE_SESSIONS, MAX_LINES}
+use Rattle.tx_reply.specs.declared.reply.ScriptReply.{ScriptReply}
+use Rattle.tx_network.specs.Networks.{IsTraced}
 use Rattle.tx_text.specs.declared.end.End.TheVariants.{Well}
 use Rattle.tx_text.specs.Lines.{lines_of}
 use Rattle.tx_engine.specs.Semantics.{opening, stops}
-use Rattle.tx_engine.specs.Slots.{Held, engine_state, own, AllSeated}
+use Rattle.tx_engine.specs.Slots.{Held, engine_state, own, AllSeated, GoesTo}
 use Rattle.tx_evidence.specs.Lines.{bounds_of}
 use Rattle.tx_script.specs.Play.{line_turn, Played, Plays, IsPlay}
 
@@ -29,13 +31,17 @@ module _ (bounds : List Key) where
         → Plays bounds (engine_state e) number later more p
         → Plays bounds (opening MAX_LIVE_SESSIONS) 0 (told ++ later) (lines ++ more) (after done p)
 
-  -- The player has played just these lines, with these replies, where no more events came than its
-  -- engine made.
-  pub record HasPlayed (lines : List (List ℕ)) (done : List (ℕ × Items)) (p : PlayerState) : Type 0 where
+  -- it stands between two lines: its seats have numbers for as many more as it may try
+  pub record IsPlayer (p : PlayerState) : Type 0 where
     pub few : p.number ≤ MAX_LINES
     pub size : length p.engine.slots ≡ MAX_LIVE_SESSIONS
     pub seated : AllSeated bounds p.left p.engine
     pub counts : own p.engine ≤ length p.engine.network.newest
+
+  -- The player has played just these lines, with these replies, where no more events came than its
+  -- engine made.
+  pub record HasPlayed (lines : List (List ℕ)) (done : List (ℕ × Items)) (p : PlayerState) : Type 0 where
+    pub stands : IsPlayer p
     pub so_far : length p.engine.network.newest ≤ own p.engine → SoFar lines done p.number p.engine
 
   -- the next line is a fault for this cause: it stops where the player stands, whatever is refused
@@ -43,9 +49,29 @@ module _ (bounds : List Key) where
   IsFault p line cause = (refused : List Bool)
       → line_turn bounds refused (p.number + 1) line (engine_state p.engine) ≡ stops cause
 
-  -- it has played some lines
-  abbrev pub IsPlayer : PlayerState → Type 0
-  IsPlayer p = (lines : List (List ℕ)) × (done : List (ℕ × Items)) × HasPlayed lines done p
+  -- the next line is replied to so: from where the player stands it leads to where the new one does
+  abbrev pub IsReplied : PlayerState → List ℕ → ScriptReply → PlayerState → Type 0
+  IsReplied p line reply next = GoesTo bounds (λ refused. line_turn bounds refused (p.number + 1) line
+      (engine_state p.engine)) reply (engine_state next.engine)
+
+  -- where nobody else acted, a trace that was that of what had happened is it still
+  pub record Traced (old new : PlayerState) : Type 0 where
+    pub before : length new.engine.network.newest ≤ own new.engine
+        → length old.engine.network.newest ≤ own old.engine
+    pub traced : length new.engine.network.newest ≤ own new.engine → IsTraced old.engine.network
+        → IsTraced new.engine.network
+
+  -- something was shown: where nobody else acted, all is as it was
+  pub record Peeked (old new : PlayerState) : Type 0 where
+    pub number : new.number ≡ old.number
+    pub left : new.left ≡ old.left
+    pub before : length new.engine.network.newest ≤ own new.engine
+        → length old.engine.network.newest ≤ own old.engine
+    pub newest : length new.engine.network.newest ≤ own new.engine
+        → new.engine.network.newest ≡ old.engine.network.newest
+    pub state : length new.engine.network.newest ≤ own new.engine
+        → engine_state new.engine ≡ engine_state old.engine
+    pub trace : new.engine.network.trace ≡ old.engine.network.trace
 
   -- these lines are a script that ends well, with these replies: so says its only play
   abbrev pub EndWellWith : List (List ℕ) → List (ℕ × Items) → Type 0

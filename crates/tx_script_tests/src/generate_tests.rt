@@ -142,6 +142,55 @@ fn no_request_is_lost(rt: HostRuntime) -> Result<(), Fail> {
     Ok(())
 }
 
+// The name of the session that begins last.
+fn last_session(text: &str) -> Option<&str> {
+    let line = text
+        .lines()
+        .filter(|line| line.starts_with("[\"begin\","))
+        .last()?;
+    line.strip_prefix("[\"begin\",")?.strip_suffix("]")
+}
+
+// Whether the last session reads each of so many keys.
+fn reads_all(text: &str, keys: u8) -> bool {
+    let Some(name) = last_session(text) else {
+        return false;
+    };
+    (0..keys).all(|number| {
+        let key = b'a' + number % 26;
+        text.lines().any(|line| {
+            line.strip_prefix("[\"get\",")
+                .and_then(|line| line.strip_prefix(name))
+                .is_some_and(|rest| rest.as_bytes().get(2) == Some(&key))
+        })
+    })
+}
+
+#[test]
+fn the_last_session_reads_every_key(rt: HostRuntime) -> Result<(), Fail> {
+    for seed in 0..16 {
+        let text = script(rt.alloc(), settings(0, seed, 70));
+        let reads = text.as_ref().is_some_and(|text| {
+            str::from_utf8(text.as_slice()).is_ok_and(|text| reads_all(text, 4))
+        });
+        assert!(rt; reads, "seed {seed}");
+    }
+    Ok(())
+}
+
+#[test]
+fn few_lines(rt: HostRuntime) -> Result<(), Fail> {
+    for steps in 0..4 {
+        for shape in 0..SHAPES.len() {
+            assert!(rt;
+                is_script(rt.alloc(), settings(shape, 7, steps)),
+                "shape {shape}, {steps} lines"
+            );
+        }
+    }
+    Ok(())
+}
+
 #[test]
 fn seeds_differ(rt: HostRuntime) -> Result<(), Fail> {
     let first = script(rt.alloc(), settings(0, 1, 50));

@@ -18,6 +18,30 @@ fn others(
     Ok(found)
 }
 
+// How many records stand above those that two lists end with alike, where one of them is as long
+// as that.
+fn above(longer: &[SeenRecord], shorter: &[SeenRecord]) -> Option<usize> {
+    let count = longer.len().checked_sub(shorter.len())?;
+    if longer.get(count..)? == shorter {
+        Some(count)
+    } else {
+        None
+    }
+}
+
+// The records that came, and those that went.
+fn records_of(
+    alloc: Global,
+    old: &[SeenRecord],
+    new: &[SeenRecord],
+) -> Result<(Vec<SeenRecord>, Vec<SeenRecord>), AllocError> {
+    if let Some(count) = above(new, old) {
+        let came = new.get(..count).unwrap_or_default();
+        return Ok((came.to_vec(alloc)?, Vec::new(alloc)));
+    }
+    Ok((others(alloc, new, old)?, others(alloc, old, new)?))
+}
+
 /// What changed of the key at this place.
 pub(crate) fn change_of(
     alloc: Global,
@@ -25,12 +49,12 @@ pub(crate) fn change_of(
     old: &SeenKey,
     new: &SeenKey,
 ) -> Result<Change, AllocError> {
-    let came = others(alloc, new.records.as_slice(), old.records.as_slice())?;
-    let went = others(alloc, old.records.as_slice(), new.records.as_slice())?;
+    let (came, went) = records_of(alloc, old.records.as_slice(), new.records.as_slice())?;
     Ok(Change {
         key,
         old_lock: old.lock,
         lock: new.lock,
+        value: String::new(alloc),
         came,
         went,
     })

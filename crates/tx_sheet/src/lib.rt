@@ -1,6 +1,6 @@
 //! A played script as rows: each line's step and reply in words, the reason of a refusal, to which
-//! keys its request went, and what changed of each key. Rows are made of the script's lines and of
-//! the replies to them, and of nothing else.
+//! keys its requests went, what regions read, and what changed of each key. Rows are made of the
+//! script's lines and of the film of their play, and of nothing else.
 #![tactic(auto)]
 
 mod change;
@@ -10,14 +10,14 @@ mod reason;
 mod reply;
 mod row;
 mod seen;
+mod sessions;
 mod sheet;
 mod step;
 mod walk;
 mod words;
 
 pub use change::is_same_lock;
-pub use machine::put_machine;
-pub use row::{Change, KeyColumn, KeyRead, Row, RowKind, Sending, Session, Sheet};
+pub use row::{Change, KeyColumn, KeyRead, Row, RowKind, Sending, Session, Sheet, Target};
 pub use seen::{Kind, SeenLock, SeenRecord};
 pub use sheet::sheet_of;
 pub use words::{places, put_first, put_number, put_stamp, shown};

@@ -38,28 +38,20 @@ impl<'a> Reply<'a> {
         }
     }
 
-    /// The rows that a scan found, where it is such a reply.
-    pub fn list(&self) -> Option<&'a [Value]> {
-        match (self.word, self.rest) {
-            ("rows", [rows]) => Some(rows.as_array()?.as_slice()),
-            _ => None,
-        }
-    }
-
     /// Whether it is a refusal or a fault.
     pub fn is_refusal(&self) -> bool {
         self.word.starts_with('E')
     }
 }
 
-// Appends a member of a reply.
+// Appends a member of a reply; one that is a list, as of what stands on a key, whole.
 fn put_member(out: &mut String, value: &Value) -> Result<(), AllocError> {
     match (value.as_str(), value.as_u64()) {
         (Some(text), _) => put_shown(out, text),
         (None, Some(number)) => put_number(out, number),
         (None, None) => {
             let text = format!(in *out.allocator(); "{value}")?;
-            put_shown(out, text.as_str())
+            out.push_str(text.as_str())
         }
     }
 }
@@ -73,8 +65,8 @@ fn put_members(out: &mut String, members: &[Value]) -> Result<(), AllocError> {
     Ok(())
 }
 
-/// Appends a row: its key and its value.
-pub(crate) fn put_row(out: &mut String, row: &Value) -> Result<(), AllocError> {
+// Appends a row: its key and its value.
+fn put_row(out: &mut String, row: &Value) -> Result<(), AllocError> {
     let Some(members) = row.as_array() else {
         return Ok(());
     };

@@ -12,7 +12,7 @@ pub enum RowKind {
     Other,
 }
 
-/// How a request was sent.
+/// What became of the request that a step sent, where it sent one.
 #[derive(Clone, Copy, Debug, PartialEq, Eq)]
 pub enum Sending {
     /// It was taken, or nothing was sent.
@@ -26,6 +26,15 @@ pub enum Sending {
     Delivered,
 }
 
+/// A key to which a request went.
+#[derive(Clone, Copy, Debug, PartialEq, Eq)]
+pub struct Target {
+    /// Its place among the keys.
+    pub key: usize,
+    /// Whether the request met a lock there.
+    pub meets_lock: bool,
+}
+
 /// What changed of a key.
 #[derive(Drop)]
 pub struct Change {
@@ -33,13 +42,15 @@ pub struct Change {
     pub key: usize,
     pub old_lock: Option<SeenLock>,
     pub lock: Option<SeenLock>,
+    /// The value of a put whose lock stands there, as it is shown; else empty.
+    pub value: String,
     /// Write records that came, from the newest on.
     pub came: Vec<SeenRecord>,
     /// Write records that went, from the newest on.
     pub went: Vec<SeenRecord>,
 }
 
-/// What a read found of a key.
+/// What a region read of a key.
 #[derive(Drop)]
 pub struct KeyRead {
     /// Its place among the keys.
@@ -52,8 +63,8 @@ pub struct KeyRead {
 #[derive(Drop)]
 pub struct Row {
     pub kind: RowKind,
-    /// The column of its session; None where it is a step of no session.
-    pub column: Option<usize>,
+    /// The place of its session; None where it is a step of no session.
+    pub session: Option<usize>,
     /// The step, without its session and its delivery.
     pub step: String,
     pub sending: Sending,
@@ -63,11 +74,11 @@ pub struct Row {
     pub answer: String,
     /// Why it was refused; empty where it was not.
     pub reason: String,
-    /// The places of the keys to which its request went.
-    pub targets: Vec<usize>,
-    /// Whether it met a lock.
-    pub meets_lock: bool,
-    /// What it read of keys that its session has not in its buffer.
+    /// The keys to which requests went that regions took.
+    pub targets: Vec<Target>,
+    /// Whether regions took requests that went to no key of these.
+    pub goes_beyond: bool,
+    /// What regions read.
     pub reads: Vec<KeyRead>,
     pub changes: Vec<Change>,
     /// The steps of the machine that were taken during it, where those are shown.
@@ -81,14 +92,18 @@ impl Row {
     }
 }
 
-/// A session of a script.
+/// A session of a script, from its first line to its end.
 #[derive(Drop)]
 pub struct Session {
     pub name: String,
+    /// Its column: that of no other session that lives.
+    pub column: usize,
     /// Where its transaction started.
     pub start: Option<u64>,
-    /// The places of the keys that it has in its buffer.
-    pub buffer: Vec<usize>,
+    /// The place of its first row.
+    pub begins: usize,
+    /// The place of the row by which it ended.
+    pub ends: Option<usize>,
 }
 
 /// A key that a script names.
@@ -105,6 +120,15 @@ pub struct KeyColumn {
 #[derive(Drop)]
 pub struct Sheet {
     pub sessions: Vec<Session>,
+    /// How many columns sessions have.
+    pub columns: usize,
     pub keys: Vec<KeyColumn>,
     pub rows: Vec<Row>,
+}
+
+impl Sheet {
+    /// The column of a row; None where it is a step of no session.
+    pub fn column_of(&self, row: &Row) -> Option<usize> {
+        Some(self.sessions.get(row.session?)?.column)
+    }
 }

@@ -1,7 +1,8 @@
-//! What stands on a key, as a `versions` line was answered.
-use crate::reply::{Reply, reply_of};
-use serde_json::Value;
+//! What stands on a key.
 use std::alloc::{AllocError, Global};
+use tx_cells::{KeyVersions, RecordAt};
+use tx_plan::{LockHead, RecordHead};
+use tx_types::{LockKind, Mode};
 
 /// What a lock or a record does.
 #[derive(Clone, Copy, Debug, PartialEq, Eq)]
@@ -49,68 +50,58 @@ impl Kind {
     }
 }
 
-fn kind_of(value: &Value) -> Option<Kind> {
-    match value.as_str()? {
-        "put" => Some(Kind::Put),
-        "delete" => Some(Kind::Delete),
-        "lock" => Some(Kind::Lock),
-        "rollback" => Some(Kind::Rollback),
-        _ => None,
+fn kind_of(kind: LockKind) -> Kind {
+    match kind {
+        LockKind::Put => Kind::Put,
+        LockKind::Delete => Kind::Delete,
+        LockKind::Lock => Kind::Lock,
     }
 }
 
-fn lock_of(value: &Value) -> Option<SeenLock> {
-    match value.as_array()?.as_slice() {
-        [kind, start, minimum, mode] => Some(SeenLock {
-            kind: kind_of(kind)?,
-            start: start.as_u64()?,
-            minimum: minimum.as_u64()?,
-            is_async: mode.as_str()? == "async",
-        }),
-        _ => None,
+fn lock_of(lock: LockHead) -> SeenLock {
+    SeenLock {
+        kind: kind_of(lock.kind),
+        start: lock.start.get(),
+        minimum: lock.min.get(),
+        is_async: lock.mode == Mode::Async,
     }
 }
 
-fn record_of(value: &Value) -> Option<SeenRecord> {
-    match value.as_array()?.as_slice() {
-        [at, kind, start, marks @ ..] => Some(SeenRecord {
-            at: at.as_u64()?,
-            kind: kind_of(kind)?,
-            start: start.as_u64()?,
-            is_marked: !marks.is_empty(),
-        }),
-        _ => None,
+// A rollback at a timestamp.
+fn rollback_at(at: u64) -> SeenRecord {
+    SeenRecord {
+        at,
+        kind: Kind::Rollback,
+        start: at,
+        is_marked: false,
     }
 }
 
-fn records_of(alloc: Global, values: &[Value]) -> Result<Vec<SeenRecord>, AllocError> {
+fn record_of(record: &RecordAt) -> SeenRecord {
+    let at = record.at.get();
+    match &record.head {
+        RecordHead::Commit {
+            kind,
+            start,
+            overlapped_rollback,
+        } => SeenRecord {
+            at,
+            kind: kind_of(*kind),
+            start: start.get(),
+            is_marked: *overlapped_rollback,
+        },
+        RecordHead::Rollback => rollback_at(at),
+    }
+}
+
+/// What stands on a key, by what its region showed of it.
+pub(crate) fn seen_of(alloc: Global, copy: &KeyVersions) -> Result<SeenKey, AllocError> {
     let mut records = Vec::new(alloc);
-    'values: for value in values {
-        if let Some(record) = record_of(value) {
-            records.push(record)?;
-        }
+    'records: for record in copy.records.as_slice() {
+        records.push(record_of(record))?;
     }
-    Ok(records)
-}
-
-fn key_of(alloc: Global, reply: Reply<'_>) -> Result<Option<SeenKey>, AllocError> {
-    match (reply.word, reply.rest) {
-        ("versions", [lock, records, _]) => {
-            let Some(records) = records.as_array() else {
-                return Ok(None);
-            };
-            let records = records_of(alloc, records.as_slice())?;
-            let lock = lock_of(lock);
-            Ok(Some(SeenKey { lock, records }))
-        }
-        _ => Ok(None),
-    }
-}
-
-/// What a reply line says that stands on a key, where it says that.
-pub(crate) fn seen_of(alloc: Global, value: &Value) -> Result<Option<SeenKey>, AllocError> {
-    match reply_of(value) {
-        Some(reply) => key_of(alloc, reply),
-        None => Ok(None),
-    }
+    Ok(SeenKey {
+        lock: copy.lock.map(lock_of),
+        records,
+    })
 }

@@ -1,29 +1,12 @@
 //! The sheet of a script that was played.
 use crate::row::{KeyColumn, Sheet};
 use crate::walk::Walk;
-use crate::words::shown;
+use crate::words::shown_bytes;
 use std::alloc::{AllocError, Global};
-use tx_played::Turn;
-use tx_steps::Line;
-use tx_text::{Broken, Parts};
-use tx_types::{Fault, Key};
-
-// The keys between the regions, by line 1.
-fn bounds_of(alloc: Global, turns: &[Turn<'_>]) -> Result<Vec<Key>, Broken> {
-    let Some(first) = turns.first() else {
-        return Ok(Vec::new(alloc));
-    };
-    let mut parts = Parts::new();
-    let Ok(said) = Line::read(alloc, 1, first.line, &mut parts)? else {
-        return Ok(Vec::new(alloc));
-    };
-    match said.bounds(alloc) {
-        Ok(Some(bounds)) => Ok(bounds),
-        Ok(None) => Ok(Vec::new(alloc)),
-        Err(Fault::OutOfMemory) => Err(Broken::Memory),
-        Err(_) => Ok(Vec::new(alloc)),
-    }
-}
+use tx_film::Film;
+use tx_script::bounds_in;
+use tx_text::Broken;
+use tx_types::Key;
 
 // The place of the region of a key.
 fn region_of(bounds: &[Key], key: &Key) -> usize {
@@ -33,28 +16,37 @@ fn region_of(bounds: &[Key], key: &Key) -> usize {
 fn columns_of(alloc: Global, bounds: &[Key], keys: &[Key]) -> Result<Vec<KeyColumn>, AllocError> {
     let mut columns = Vec::new(alloc);
     'keys: for key in keys {
-        let name = match str::from_utf8(key.as_bytes()) {
-            Ok(text) => shown(alloc, text)?,
-            Err(_) => String::new(alloc),
-        };
+        let name = shown_bytes(alloc, key.as_bytes())?;
         let region = region_of(bounds, key);
         columns.push(KeyColumn { name, region })?;
     }
     Ok(columns)
 }
 
-/// The sheet of lines that were played, with what was shown of these keys behind them.
-pub fn sheet_of(alloc: Global, keys: &[Key], turns: &[Turn<'_>]) -> Result<Sheet, Broken> {
-    let bounds = bounds_of(alloc, turns)?;
+/// The sheet of lines that were played, by their film, with these keys, which rise; and with the
+/// machine's steps where that is asked.
+pub fn sheet_of(
+    alloc: Global,
+    keys: &[Key],
+    lines: &[&[u8]],
+    film: &Film,
+    machine: bool,
+) -> Result<Sheet, Broken> {
+    let bounds = match lines.first() {
+        Some(line) => bounds_in(alloc, line)?,
+        None => Vec::new(alloc),
+    };
     let columns = columns_of(alloc, bounds.as_slice(), keys)?;
-    let mut walk = Walk::new(alloc, keys)?;
+    let mut walk = Walk::new(alloc, keys, film, machine)?;
     let mut rows = Vec::new(alloc);
-    'turns: for turn in turns {
-        walk.put_row(&mut rows, turn)?;
+    'lines: for (place, (line, frame)) in lines.iter().zip(film.frames()).enumerate() {
+        walk.put_row(&mut rows, place, line, frame)?;
     }
     let Walk { sessions, .. } = walk;
+    let (sessions, count) = sessions.into_parts();
     Ok(Sheet {
         sessions,
+        columns: count,
         keys: columns,
         rows,
     })

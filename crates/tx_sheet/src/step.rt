@@ -83,24 +83,39 @@ pub(crate) fn put_step(out: &mut String, step: &Step<&str>) -> Result<(), AllocE
     }
 }
 
-// How a request is sent by its delivery, and the name under which it is held.
-fn delivered<'a>(delivery: Delivery<&'a str>) -> (Sending, &'a str) {
+// What became of a request by its delivery, where it was sent: of those that regions took it knows
+// whether there are some, and of the others whether the reply is that none came.
+fn delivered(delivery: Delivery<&str>, is_taken: bool, is_lost: bool) -> Sending {
     match delivery {
-        Delivery::Taken => (Sending::Plain, ""),
-        Delivery::Lost => (Sending::Lost, ""),
-        Delivery::Unanswered => (Sending::ReplyLost, ""),
-        Delivery::Repeated => (Sending::Twice, ""),
-        Delivery::Held(name) => (Sending::Held, name),
+        Delivery::Lost if is_lost => Sending::Lost,
+        Delivery::Held(_) if is_lost => Sending::Held,
+        Delivery::Unanswered if is_taken => Sending::ReplyLost,
+        Delivery::Repeated if is_taken => Sending::Twice,
+        _ => Sending::Plain,
     }
 }
 
-/// How the request of a step is sent, and the name under which it is held.
-pub(crate) fn sending_of<'a>(step: &Step<&'a str>) -> (Sending, &'a str) {
+/// What became of the request of a step, by whether regions took some and whether the reply is that
+/// none came. A delivery that the step ignored, since it sent nothing, is none.
+pub(crate) fn sending_of(step: &Step<&str>, is_taken: bool, is_lost: bool) -> Sending {
     match *step {
-        Step::Send(_, _, delivery) => delivered(delivery),
-        Step::Deliver(name) => (Sending::Delivered, name),
-        _ => (Sending::Plain, ""),
+        Step::Send(_, _, delivery) => delivered(delivery, is_taken, is_lost),
+        Step::Deliver(_) => Sending::Delivered,
+        _ => Sending::Plain,
     }
+}
+
+/// The name under which the request of a step is held, or was.
+pub(crate) fn held_as<'a>(step: &Step<&'a str>) -> &'a str {
+    match *step {
+        Step::Send(_, _, Delivery::Held(name)) | Step::Deliver(name) => name,
+        _ => "",
+    }
+}
+
+/// Whether a step ends its session, where it is no fault.
+pub(crate) fn is_last(step: &Step<&str>) -> bool {
+    matches!(step, Step::Act(_, Op::Finish | Op::Stop))
 }
 
 /// The session of a step, where it is one of a session.

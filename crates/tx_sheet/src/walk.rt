@@ -1,26 +1,36 @@
 //! The rows of a script that was played, one after another.
 use crate::change::change_of;
-use crate::reads::{found_by, found_in, is_scanned, last_of};
+use crate::machine::words_of;
+use crate::reads::{put_changed, put_taking, value_put};
 use crate::reason::put_reason;
 use crate::reply::{Reply, put_reply, reply_of};
-use crate::row::{Change, KeyRead, Row, RowKind, Sending, Session};
-use crate::seen::{SeenKey, seen_of};
-use crate::step::{put_step, sending_of, session_of};
+use crate::row::{Row, RowKind, Sending};
+use crate::seen::{SeenKey, SeenLock, seen_of};
+use crate::sessions::Sessions;
+use crate::step::{held_as, is_last, put_step, sending_of, session_of};
 use crate::words::put_shown;
 use serde_json::Value;
 use std::alloc::{AllocError, Global};
-use tx_played::{Turn, key_named};
-use tx_steps::{Call, Line, Op, Program, Step};
-use tx_text::{Broken, Parts, value_of};
+use std::mem;
+use tx_film::{Film, Frame, KeyShown};
+use tx_reply::{ScriptReply, put_reply as put_reply_line};
+use tx_steps::{Line, Program, Step};
+use tx_text::{Broken, Parts, put_fault, value_of};
+use tx_trace::Taking;
 use tx_types::Key;
 
 /// Where the rows before have led to: what was seen of each key, and the sessions.
 #[derive(Drop)]
 pub(crate) struct Walk<'k> {
-    pub alloc: Global,
-    pub keys: &'k [Key],
-    pub seen: Vec<SeenKey>,
-    pub sessions: Vec<Session>,
+    alloc: Global,
+    keys: &'k [Key],
+    film: &'k Film,
+    /// Whether rows have the machine's steps.
+    machine: bool,
+    seen: Vec<SeenKey>,
+    /// Of each key the value that its last lock puts there, as it is shown.
+    values: Vec<String>,
+    pub sessions: Sessions,
 }
 
 // Of each key nothing was seen.
@@ -35,79 +45,21 @@ fn nothing_seen(alloc: Global, count: usize) -> Result<Vec<SeenKey>, AllocError>
     Ok(seen)
 }
 
-// Puts what was seen of a key in place of what was seen before, and what changed among changes.
-fn put_change(
-    alloc: Global,
-    changes: &mut Vec<Change>,
-    key: usize,
-    old: &mut SeenKey,
-    new: SeenKey,
-) -> Result<(), AllocError> {
-    let found = change_of(alloc, key, old, &new);
-    *old = new;
-    let change = found?;
-    if change.is_none() {
-        return Ok(());
+// Of each key no value.
+fn no_values(alloc: Global, count: usize) -> Result<Vec<String>, AllocError> {
+    let mut values = Vec::new(alloc);
+    for _ in 0..count {
+        values.push(String::new(alloc))?;
     }
-    Ok(changes.push(change)?)
+    Ok(values)
 }
 
-// The same of the key at this place, where there is one.
-fn put_seen(
-    alloc: Global,
-    changes: &mut Vec<Change>,
-    seen: &mut [SeenKey],
-    key: usize,
-    new: SeenKey,
-) -> Result<(), AllocError> {
-    match seen.get_mut(key) {
-        Some(old) => put_change(alloc, changes, key, old, new),
-        None => {
-            drop(new);
-            Ok(())
-        }
+// Whether a lock is the one that stood there, maybe with another minimum.
+fn is_still(old: Option<SeenLock>, lock: SeenLock) -> bool {
+    match old {
+        Some(old) => old.start == lock.start,
+        None => false,
     }
-}
-
-// Puts what changed of keys among changes, by what was shown of them.
-fn put_changes(
-    alloc: Global,
-    changes: &mut Vec<Change>,
-    seen: &mut [SeenKey],
-    shown: &[&[u8]],
-) -> Result<(), Broken> {
-    'keys: for (key, line) in shown.iter().enumerate() {
-        if let Some(new) = seen_at(alloc, line)? {
-            put_seen(alloc, changes, seen, key, new)?;
-        }
-    }
-    Ok(())
-}
-
-// What a reply line says that stands on a key, where it says that.
-fn seen_at(alloc: Global, line: &[u8]) -> Result<Option<SeenKey>, Broken> {
-    match value_of(alloc, line)? {
-        Ok(value) => Ok(seen_of(alloc, &value)?),
-        Err(_) => Ok(None),
-    }
-}
-
-// The place of a name among sessions.
-fn position_of(sessions: &[Session], name: &str) -> Option<usize> {
-    sessions
-        .iter()
-        .position(|session| session.name.as_str() == name)
-}
-
-// The place of a key.
-fn place_of(keys: &[Key], text: &str) -> Option<usize> {
-    keys.iter()
-        .position(|key| key.as_bytes() == text.as_bytes())
-}
-
-// Whether a step reads a key.
-fn is_read(step: &Step<&str>) -> bool {
-    matches!(step, Step::Send(_, Call::Get(_), _) | Step::Read(..))
 }
 
 // Appends the list that a line has behind its word.
@@ -126,214 +78,152 @@ fn put_list(alloc: Global, out: &mut String, value: &Value) -> Result<(), AllocE
 fn empty_row(alloc: Global) -> Row {
     Row {
         kind: RowKind::Other,
-        column: None,
+        session: None,
         step: String::new(alloc),
         sending: Sending::Plain,
         held: String::new(alloc),
         answer: String::new(alloc),
         reason: String::new(alloc),
         targets: Vec::new(alloc),
-        meets_lock: false,
+        goes_beyond: false,
         reads: Vec::new(alloc),
         changes: Vec::new(alloc),
         machine: Vec::new(alloc),
     }
 }
 
-// Puts the places of keys that changed among targets.
-fn put_changed(row: &mut Row) -> Result<(), AllocError> {
-    'changes: for change in &row.changes {
-        row.targets.push(change.key)?;
+// The reply to a line as a line tells it, without its newline.
+fn reply_text(alloc: Global, number: u64, frame: &Frame) -> Result<Vec<u8>, AllocError> {
+    let mut text = Vec::new(alloc);
+    match &frame.reply {
+        Ok(reply) => put_reply_line(&mut text, number, reply)?,
+        Err(cause) => put_fault(&mut text, number, *cause)?,
+    }
+    text.pop();
+    Ok(text)
+}
+
+// Puts the requests that regions took by a line.
+fn put_takings(
+    alloc: Global,
+    row: &mut Row,
+    keys: &[Key],
+    takings: &[Taking],
+) -> Result<(), AllocError> {
+    'takings: for taking in takings {
+        put_taking(alloc, row, keys, taking)?;
     }
     Ok(())
 }
 
 impl<'k> Walk<'k> {
-    pub fn new(alloc: Global, keys: &'k [Key]) -> Result<Walk<'k>, AllocError> {
+    pub fn new(
+        alloc: Global,
+        keys: &'k [Key],
+        film: &'k Film,
+        machine: bool,
+    ) -> Result<Walk<'k>, AllocError> {
         Ok(Walk {
             alloc,
             keys,
+            film,
+            machine,
             seen: nothing_seen(alloc, keys.len())?,
-            sessions: Vec::new(alloc),
+            values: no_values(alloc, keys.len())?,
+            sessions: Sessions::new(alloc),
         })
     }
 
-    // The column of a session, which is a new one where no line before names it.
-    fn column_of(&mut self, name: &str) -> Result<usize, AllocError> {
-        if let Some(column) = position_of(self.sessions.as_slice(), name) {
-            return Ok(column);
-        }
-        let column = self.sessions.len();
-        self.sessions.push(Session {
-            name: String::from_str(self.alloc, name)?,
-            start: None,
-            buffer: Vec::new(self.alloc),
-        })?;
-        Ok(column)
-    }
-
-    // The session of a column.
-    fn session(&self, column: Option<usize>) -> Option<&Session> {
-        self.sessions.get(column?)
-    }
-
-    // Notes in the session of a column what a step does to it: it starts, or a value enters its
-    // buffer.
-    fn note(
+    // Puts what changed of a key among changes, and what then stands there in place of what stood.
+    fn put_change(
         &mut self,
-        column: usize,
-        step: &Step<&str>,
-        reply: Reply<'_>,
+        row: &mut Row,
+        takings: &[Taking],
+        shown: &KeyShown,
     ) -> Result<(), AllocError> {
-        let Some(session) = self.sessions.get_mut(column) else {
+        let (Some(old), Some(key)) = (self.seen.get_mut(shown.key), self.keys.get(shown.key)) else {
             return Ok(());
         };
-        match (step, reply.word) {
-            (Step::Begin(_), "start") => {
-                session.start = Some(reply.number(0));
-                session.buffer.clear();
-                Ok(())
+        let new = seen_of(self.alloc, shown.shown.copy())?;
+        let mut change = change_of(self.alloc, shown.key, old, &new)?;
+        drop(mem::replace(old, new));
+        if change.is_none() {
+            return Ok(());
+        }
+        if let Some(lock) = change.lock {
+            if !is_still(change.old_lock, lock) {
+                let value = value_put(self.alloc, takings, key, lock.start)?;
+                self.set_value(shown.key, value);
             }
-            (Step::Act(_, Op::Put(key, _) | Op::Insert(key, _) | Op::Delete(key)), "ok") => {
-                match place_of(self.keys, key) {
-                    Some(place) => Ok(session.buffer.push(place)?),
-                    None => Ok(()),
-                }
-            }
-            _ => Ok(()),
+            change.value.push_str(self.value(shown.key))?;
+        }
+        Ok(row.changes.push(change)?)
+    }
+
+    // The value that the last lock on a key puts there.
+    fn value(&self, key: usize) -> &str {
+        match self.values.get(key) {
+            Some(value) => value.as_str(),
+            None => "",
         }
     }
 
-    // Whether a session has a key in its own buffer.
-    fn is_own(&self, column: Option<usize>, place: usize) -> bool {
-        match self.session(column) {
-            Some(session) => session.buffer.contains(&place),
-            None => false,
+    // Notes that value.
+    fn set_value(&mut self, key: usize, value: String) {
+        match self.values.get_mut(key) {
+            Some(kept) => drop(mem::replace(kept, value)),
+            None => drop(value),
         }
     }
 
-    // The key that a request went to, where no key changed: the one that it read, or the one that a
-    // lock stands on.
-    fn target_of(&self, row: &Row, step: &Step<&str>, reply: Reply<'_>) -> Option<usize> {
-        if reply.word == "E1" {
-            return place_of(self.keys, reply.text(0));
-        }
-        if !is_read(step) || reply.is_refusal() {
-            return None;
-        }
-        let place = place_of(self.keys, key_named(step)?)?;
-        if self.is_own(row.column, place) {
-            None
-        } else {
-            Some(place)
-        }
-    }
-
-    // Puts what a scan found among the reads, of each key that it covers.
-    fn put_scan(
-        &self,
+    // Puts what changed of keys by a line.
+    fn put_changes(
+        &mut self,
         row: &mut Row,
-        range: (&str, &str),
-        limit: u32,
-        rows: &[Value],
+        takings: &[Taking],
+        keys: &[KeyShown],
     ) -> Result<(), AllocError> {
-        let last = last_of(rows, limit);
-        'keys: for (place, key) in self.keys.iter().enumerate() {
-            if is_scanned(key, range, last) && !self.is_own(row.column, place) {
-                let found = found_in(self.alloc, rows, key)?;
-                row.reads.push(KeyRead { key: place, found })?;
-                row.targets.push(place)?;
-            }
+        'keys: for shown in keys {
+            self.put_change(row, takings, shown)?;
         }
         Ok(())
-    }
-
-    // Puts what a get found among the reads, and the key that a request went to among the targets.
-    fn put_get(
-        &self,
-        row: &mut Row,
-        step: &Step<&str>,
-        reply: Reply<'_>,
-    ) -> Result<(), AllocError> {
-        let Some(place) = self.target_of(row, step, reply) else {
-            return Ok(());
-        };
-        row.targets.push(place)?;
-        match found_by(self.alloc, reply)? {
-            Some(found) => Ok(row.reads.push(KeyRead { key: place, found })?),
-            None => Ok(()),
-        }
-    }
-
-    // Puts what a step read among the reads, where no key changed.
-    fn put_reads(
-        &self,
-        row: &mut Row,
-        step: &Step<&str>,
-        reply: Reply<'_>,
-    ) -> Result<(), AllocError> {
-        if !row.targets.is_empty() {
-            return Ok(());
-        }
-        match (step, reply.list()) {
-            (Step::Send(_, Call::Scan(from, to, limit), _), Some(rows)) => {
-                self.put_scan(row, (*from, *to), *limit, rows)
-            }
-            _ => self.put_get(row, step, reply),
-        }
-    }
-
-    // What a step was answered.
-    fn answer(
-        &mut self,
-        row: &mut Row,
-        step: &Step<&str>,
-        reply: Reply<'_>,
-    ) -> Result<(), AllocError> {
-        let start = match self.session(row.column) {
-            Some(session) => session.start,
-            None => None,
-        };
-        put_reply(&mut row.answer, reply)?;
-        put_reason(&mut row.reason, reply, start)?;
-        row.meets_lock = reply.word == "E1";
-        self.put_reads(row, step, reply)?;
-        match row.column {
-            Some(column) => self.note(column, step, reply),
-            None => Ok(()),
-        }
     }
 
     // The row of a step.
     fn step_row(
         &mut self,
         row: &mut Row,
+        place: usize,
         step: &Step<&str>,
-        reply: Option<Reply<'_>>,
+        frame: &Frame,
+        reply: Reply<'_>,
     ) -> Result<(), AllocError> {
-        if let Some(name) = session_of(step) {
-            row.column = Some(self.column_of(name)?);
-        }
         row.kind = RowKind::Step;
         put_step(&mut row.step, step)?;
-        let (sending, name) = sending_of(step);
-        row.sending = sending;
-        if !name.is_empty() {
-            put_shown(&mut row.held, name)?;
+        put_reply(&mut row.answer, reply)?;
+        let is_taken = !self.film.takings(place).is_empty();
+        let is_lost = matches!(frame.reply, Ok(ScriptReply::Lost));
+        row.sending = sending_of(step, is_taken, is_lost);
+        if matches!(row.sending, Sending::Held | Sending::Delivered) {
+            put_shown(&mut row.held, held_as(step))?;
         }
-        match reply {
-            Some(reply) => self.answer(row, step, reply),
-            None => Ok(()),
+        let Some(name) = session_of(step) else {
+            return put_reason(&mut row.reason, reply, None);
+        };
+        let session = self.sessions.of(self.alloc, name, place)?;
+        row.session = Some(session);
+        self.sessions.note(session, frame);
+        put_reason(&mut row.reason, reply, self.sessions.start(session))?;
+        if (is_last(step) && frame.reply.is_ok()) || !self.sessions.is_begun(session) {
+            self.sessions.end(session, place);
         }
+        Ok(())
     }
 
     // The row of a line that is no step.
-    fn other_row(&self, row: &mut Row, reply: Option<Reply<'_>>) -> Result<(), AllocError> {
+    fn other_row(&self, row: &mut Row, reply: Reply<'_>) -> Result<(), AllocError> {
         row.step.push_str("(no step)")?;
-        match reply {
-            Some(reply) => put_reason(&mut row.reason, reply, None),
-            None => Ok(()),
-        }
+        put_reason(&mut row.reason, reply, None)
     }
 
     // The row of the line that says the regions.
@@ -350,44 +240,61 @@ impl<'k> Walk<'k> {
     fn line_row(
         &mut self,
         row: &mut Row,
+        place: usize,
         line: &[u8],
-        reply: Option<Reply<'_>>,
+        frame: &Frame,
+        reply: Reply<'_>,
     ) -> Result<(), Broken> {
-        if let Some(reply) = reply {
-            if reply.word == "regions" {
-                return self.regions_row(row, line, reply);
-            }
+        if matches!(frame.reply, Ok(ScriptReply::Regions(_))) {
+            return self.regions_row(row, line, reply);
         }
         let mut parts = Parts::new();
         let Ok(said) = Line::read(self.alloc, 1, line, &mut parts)? else {
             return Ok(self.other_row(row, reply)?);
         };
         match said.step(Program::Simulate) {
-            Some(step) => Ok(self.step_row(row, &step, reply)?),
+            Some(step) => Ok(self.step_row(row, place, &step, frame, reply)?),
             None => Ok(self.other_row(row, reply)?),
         }
     }
 
-    // Fills the row of a turn.
-    fn fill(&mut self, row: &mut Row, turn: &Turn<'_>) -> Result<(), Broken> {
-        put_changes(
-            self.alloc,
-            &mut row.changes,
-            self.seen.as_mut_slice(),
-            turn.shown,
-        )?;
+    // Fills the row of the line at this place.
+    fn fill(
+        &mut self,
+        row: &mut Row,
+        place: usize,
+        line: &[u8],
+        frame: &Frame,
+    ) -> Result<(), Broken> {
+        let film = self.film;
+        let takings = film.takings(place);
+        self.put_changes(row, takings, frame.keys.as_slice())?;
+        put_takings(self.alloc, row, self.keys, takings)?;
         put_changed(row)?;
-        match value_of(self.alloc, turn.reply)? {
-            Ok(value) => self.line_row(row, turn.line, reply_of(&value)),
-            Err(_) => self.line_row(row, turn.line, None),
+        if self.machine {
+            row.machine = words_of(self.alloc, film.steps(place))?;
+        }
+        let number = (place as u64).saturating_add(1);
+        let text = reply_text(self.alloc, number, frame)?;
+        let Ok(value) = value_of(self.alloc, text.as_slice())? else {
+            return Ok(());
+        };
+        match reply_of(&value) {
+            Some(reply) => self.line_row(row, place, line, frame, reply),
+            None => Ok(()),
         }
     }
 
-    /// Puts the row of a turn behind rows.
-    pub fn put_row(&mut self, rows: &mut Vec<Row>, turn: &Turn<'_>) -> Result<(), Broken> {
+    /// Puts the row of the line at this place behind rows.
+    pub fn put_row(
+        &mut self,
+        rows: &mut Vec<Row>,
+        place: usize,
+        line: &[u8],
+        frame: &Frame,
+    ) -> Result<(), Broken> {
         let mut row = empty_row(self.alloc);
-        let filled = self.fill(&mut row, turn);
-        match filled {
+        match self.fill(&mut row, place, line, frame) {
             Ok(()) => Ok(rows.push(row)?),
             Err(broken) => {
                 drop(row);

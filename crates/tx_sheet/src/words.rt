@@ -9,9 +9,13 @@ const MAX_PLACES: usize = 24;
 /// How many places of a longer one are shown.
 const FIRST_PLACES: usize = 18;
 
-// How many places a character takes in a line: none that is not printable.
+// How many places a character takes in a line: none that is not printable, or that ends a line or
+// is a space of another kind.
 fn places_of(character: char) -> usize {
-    character.width().unwrap_or(0)
+    match character {
+        '\u{a0}' | '\u{2028}' | '\u{2029}' => 0,
+        _ => character.width().unwrap_or(0),
+    }
 }
 
 /// How many places a text takes in a line.
@@ -119,6 +123,18 @@ pub(crate) fn put_shown(out: &mut String, text: &str) -> Result<(), AllocError> 
     let mut quoted = String::new(*out.allocator());
     put_quoted(&mut quoted, text)?;
     put_cut(out, quoted.as_str(), text.len())
+}
+
+/// Appends a key or a value as it is shown.
+pub(crate) fn put_bytes(out: &mut String, bytes: &[u8]) -> Result<(), AllocError> {
+    put_shown(out, str::from_utf8(bytes).unwrap_or("(no text)"))
+}
+
+/// A key or a value as it is shown.
+pub(crate) fn shown_bytes(alloc: Global, bytes: &[u8]) -> Result<String, AllocError> {
+    let mut out = String::new(alloc);
+    put_bytes(&mut out, bytes)?;
+    Ok(out)
 }
 
 /// A key, a value or a name as it is shown.

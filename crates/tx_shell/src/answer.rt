@@ -3,54 +3,14 @@ use crate::asked::Invocation;
 use crate::failure::{Failing, Stopped};
 use crate::perform::perform;
 use crate::stages::Stages;
+use crate::told::{Told, tell_all};
 use std::cell::{Cell, RefCell};
 use std::io::{BufWriter, Read, Write};
 use std::sync::Wait;
 use std::thread::Threads;
-use tx_command::{
-    Asking, CommandEnd, Counted, Erasing, NotedFaults, Noting, Recent, Shared, fault_in, reason,
-};
-use tx_explain::ScriptStop;
-use tx_run::SessionStage;
+use tx_command::CommandEnd;
+use tx_streams::{Asking, Comments, Copied, Counted, Dropped, Erasing, Noting, Recent, Shared};
 use tx_text::Broken;
-
-// Says on standard error why a line is a fault, where its session's stage is why by that stage.
-// What cannot be said there is left out: the line of each fault is written all the same.
-fn tell(
-    asked: &Invocation<'_>,
-    fault: NotedFaults,
-    line: Option<&[u8]>,
-    stage: Option<SessionStage>,
-) {
-    let host = asked.host;
-    let state = stage.map(|stage| stage.as_str());
-    if let Ok(why) = reason(host.alloc(), asked.job.task, fault, line, state) {
-        let _ = eprintln!(host; "txkv: {why}");
-    }
-}
-
-// The same of where a script stopped whose picture was drawn.
-fn tell_stop(asked: &Invocation<'_>, stop: &ScriptStop) {
-    if let Some(fault) = fault_in(stop.reply.as_slice()) {
-        let fault = NotedFaults {
-            number: stop.number,
-            cause: fault.cause,
-        };
-        tell(asked, fault, Some(stop.line.as_slice()), stop.stage);
-    }
-}
-
-// Says why lines are faults.
-fn explain<I>(asked: &Invocation<'_>, faults: &[NotedFaults], stages: &Stages, lines: &Recent<I>) {
-    asked.progress.erase();
-    'faults: for fault in faults {
-        let line = lines.line(fault.number);
-        tell(asked, *fault, line, stages.at(fault.number));
-    }
-    if let Some(stop) = &stages.stop {
-        tell_stop(asked, stop);
-    }
-}
 
 /// Does what is asked over an input and an output. What was written is handed on each time before
 /// more of the input is read.
@@ -101,16 +61,27 @@ where
     } else {
         None
     };
+    let dropped = RefCell::new(Dropped::new(alloc));
+    let copy = RefCell::new(Vec::new(alloc));
     let counted = Counted::new(input, asked.progress);
-    let asking = Asking::new(counted, Shared::new(&shared), terminal);
+    let steps = Comments::new(counted, &dropped, asked.job.has_comments);
+    let copied = Copied::new(steps, &copy, asked.kept());
+    let asking = Asking::new(copied, Shared::new(&shared), terminal);
     let Ok(mut reader) = Recent::new(alloc, asking) else {
         return Err(Broken::Memory);
     };
     let mut writer = Noting::new(alloc, Shared::new(&shared));
     let mut stages = Stages::new(alloc);
-    let ended = perform(rt, asked, &mut reader, &mut writer, &mut stages);
-    if !asked.is_talk() {
-        explain(asked, writer.faults(), &stages, &reader);
+    let ended = perform(rt, asked, &mut reader, &mut writer, &mut stages, &copy);
+    if !asked.says_why() {
+        let told = Told {
+            faults: writer.faults(),
+            read_only: writer.read_only(),
+            stages: &stages,
+            dropped: &dropped,
+            copy: &copy,
+        };
+        tell_all(asked, told, &reader);
     }
     if reader.inner().is_cut_off() {
         return Err(Broken::Output);

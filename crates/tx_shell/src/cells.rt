@@ -10,7 +10,7 @@ use tx_nested::NestedCells;
 use tx_run::{Plain, RunResult, Settings, run_script};
 use tx_sched::Gate;
 use tx_script::{Broken, End, SessionStage, simulate, simulate_checked, simulate_numbered};
-use tx_terminal::converse;
+use tx_terminal::{converse, go_on};
 
 /// `txkv simulate`.
 pub(crate) fn simulate_over<B: BufRead, W: Write>(
@@ -36,6 +36,19 @@ pub(crate) fn converse_over<B: BufRead, W: Write>(
     match cells {
         CellsKind::Flat => converse::<FlatCells, _, _>(host, reader, writer),
         CellsKind::Nested => converse::<NestedCells, _, _>(host, reader, writer),
+    }
+}
+
+/// `txkv simulate --go-on`.
+pub(crate) fn go_on_over<B: BufRead, W: Write>(
+    host: HostRuntime,
+    cells: CellsKind,
+    reader: &mut B,
+    writer: &mut W,
+) -> Result<End, Broken> {
+    match cells {
+        CellsKind::Flat => go_on::<FlatCells, _, _>(host, reader, writer),
+        CellsKind::Nested => go_on::<NestedCells, _, _>(host, reader, writer),
     }
 }
 

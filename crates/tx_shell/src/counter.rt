@@ -1,7 +1,7 @@
 //! What counts the steps of a run.
-use tx_command::ProgressLine;
 use tx_latch::Cid;
 use tx_sched::Gate;
+use tx_streams::ProgressLine;
 
 /// A gate that counts each step, where the progress is told.
 #[derive(Clone, Copy)]

@@ -1,17 +1,21 @@
-//! The transaction layer at a shell. `tx_command` reads the words of the command line, and has the
-//! streams that answer as they are asked; what a command does stands in `tx_script`, `tx_check` and
-//! `tx_run`. Here they meet, and how a command ended becomes a status.
+//! The transaction layer at a shell. `tx_command` reads the words of the command line, `tx_streams`
+//! has the streams that answer as they are asked, `tx_sentences` says why a line is a fault; what a
+//! command does stands in `tx_script`, `tx_check` and `tx_run`. Here they meet, and how a command
+//! ended becomes a status.
 #![tactic(auto)]
 
 mod answer;
 mod asked;
 mod cells;
+mod checked;
 mod counter;
 mod failure;
 mod generated;
 mod perform;
 mod program;
+mod reduced;
 mod stages;
 mod stats;
+mod told;
 
 pub use program::txkv;

@@ -1,13 +1,15 @@
 //! What each command does with its input.
 use crate::asked::Invocation;
 use crate::cells::{
-    converse_over, explain_over, run_over, simulate_checked_over, simulate_numbered_over,
-    simulate_over,
+    converse_over, explain_over, go_on_over, run_over, simulate_checked_over, simulate_over,
 };
+use crate::checked::steps_over;
 use crate::counter::Watching;
 use crate::generated::generate_script;
+use crate::reduced::reduce_script;
 use crate::stages::Stages;
 use crate::stats::stats_of;
+use std::cell::RefCell;
 use std::io::{BufRead, Write};
 use std::mem::swap;
 use std::sync::Wait;
@@ -15,8 +17,9 @@ use std::thread::Threads;
 use std::time::{Duration, Instant};
 use tx_answers::{Answered, CycleForm, ImportEnd, ImportOptions, import};
 use tx_check::{check, check_all, check_with_reason};
-use tx_command::{CommandEnd, CommandTask, ExplainOptions, Steps};
+use tx_command::{CommandEnd, CommandTask, ExplainOptions};
 use tx_explain::{PictureForm, PictureOptions};
+use tx_hints::escaped_lines;
 use tx_recording::Orders;
 use tx_run::{RunResult, Settings};
 use tx_text::{Broken, End};
@@ -82,7 +85,9 @@ fn judge<I: BufRead, O: Write>(
     let Answered { end, why } = import(host.alloc(), options, reader, writer)?;
     asked.progress.erase();
     if let Ok(why) = str::from_utf8(why.as_slice()) {
-        let _ = eprint!(host; "{why}");
+        if let Ok(why) = escaped_lines(host.alloc(), why) {
+            let _ = eprint!(host; "{why}");
+        }
     }
     Ok(match end {
         ImportEnd::Yes => CommandEnd::Well,
@@ -111,6 +116,7 @@ fn play<R, I, O>(
     reader: &mut I,
     writer: &mut O,
     stages: &mut Stages,
+    copy: &RefCell<Vec<u8>>,
 ) -> Result<End, Broken>
 where
     R: AllocGlobal + Threads + Wait + Sync + Send + Clone + Drop,
@@ -120,36 +126,26 @@ where
     let alloc = rt.alloc();
     let cells = asked.job.cells;
     match asked.job.task {
-        CommandTask::Simulate if asked.is_talk() => {
+        CommandTask::Simulate | CommandTask::SimulateOn if asked.is_talk() => {
             converse_over(asked.host, cells, reader, writer)
         },
+        CommandTask::SimulateOn => go_on_over(asked.host, cells, reader, writer),
         CommandTask::Simulate => simulate_over(alloc, cells, reader, writer, &mut stages.script),
         CommandTask::SimulateChecked => {
             simulate_checked_over(alloc, cells, reader, writer, &mut stages.script)
         }
         CommandTask::SimulateSteps => {
-            simulate_checked_over(
-                alloc,
-                cells,
-                reader,
-                &mut Steps::new(writer),
-                &mut stages.script,
-            )
+            steps_over(alloc, cells, false, reader, writer, stages, copy)
         }
         CommandTask::SimulateBeside => {
-            simulate_numbered_over(
-                alloc,
-                cells,
-                reader,
-                &mut Steps::new(writer),
-                &mut stages.script,
-            )
+            steps_over(alloc, cells, true, reader, writer, stages, copy)
         }
         CommandTask::Explain(told) => {
             let options = picture_asked(told);
             explain_over(alloc, cells, options, reader, writer, &mut stages.stop)
         }
         CommandTask::Generate(told) => generate_script(alloc, told, writer),
+        CommandTask::Reduce => reduce_script(asked, reader, writer),
         CommandTask::Check | CommandTask::Import(_) => check(alloc, reader, writer),
         CommandTask::CheckWithReason => check_with_reason(alloc, reader, writer),
         CommandTask::CheckAll(has_reasons) => check_all(alloc, has_reasons, reader, writer),
@@ -161,13 +157,15 @@ where
 }
 
 /// Does what is asked over these streams. Where a script stops at a step that its session may not
-/// make, or sessions of a run do, `stages` says how far they are.
+/// make, or sessions of a run do, `stages` says how far they are. `copy` has what was read of it so
+/// far, as much as is kept.
 pub(crate) fn perform<R, I, O>(
     rt: &R,
     asked: &Invocation<'_>,
     reader: &mut I,
     writer: &mut O,
     stages: &mut Stages,
+    copy: &RefCell<Vec<u8>>,
 ) -> Result<CommandEnd, Broken>
 where
     R: AllocGlobal + Threads + Wait + Sync + Send + Clone + Drop,
@@ -185,9 +183,10 @@ where
                 trace: told.trace,
                 form: form_of(told),
                 all: told.all,
+                budget: told.budget.min(0xffff_ffff) as u32,
             };
             judge(asked, options, reader, writer)
         }
-        _ => Ok(CommandEnd::of(play(rt, asked, reader, writer, stages)?)),
+        _ => Ok(CommandEnd::of(play(rt, asked, reader, writer, stages, copy)?)),
     }
 }

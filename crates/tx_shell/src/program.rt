@@ -11,9 +11,11 @@ use std::sync::Wait;
 use std::thread::Threads;
 use std::{env, fs, io};
 use tx_command::{
-    CommandEnd, CommandLine, Display, ProgressLine, Terminals, job_of, message_of, parse, shown_at,
-    status_of,
+    CommandEnd, CommandLine, Display, Terminals, job_of, message_of, parse, shown_at, status_of,
+    width_of,
 };
+use tx_hints::{escaped, wrapped};
+use tx_streams::ProgressLine;
 use tx_text::Broken;
 
 // Does what is asked over the input that is named.
@@ -33,16 +35,29 @@ where
     }
 }
 
+// Whether nobody reads what is written any more: whoever did so knows it.
+fn is_quiet(stopped: Stopped) -> bool {
+    match stopped.cause {
+        Some(cause) => stopped.why == Broken::Output && cause.kind() == io::ErrorKind::BrokenPipe,
+        None => false,
+    }
+}
+
 // The warning before status 4: the file, where its input failed, and what the system says. What
-// cannot be said is left out.
-fn warn<R: Eprint>(rt: &R, file: Option<&str>, stopped: Stopped) {
+// cannot be said is left out, and nothing is said to a pipe that was closed.
+fn warn<R: Eprint + AllocGlobal>(rt: &R, file: Option<&str>, stopped: Stopped) {
+    if is_quiet(stopped) {
+        return;
+    }
     let message = message_of(stopped.why);
     let file = file.filter(|_| stopped.why == Broken::Input);
-    let _ = match (file, stopped.cause) {
-        (Some(file), Some(cause)) => eprintln!(rt; "txkv: {file}: {message}: {cause}"),
-        (Some(file), None) => eprintln!(rt; "txkv: {file}: {message}"),
-        (None, Some(cause)) => eprintln!(rt; "txkv: {message}: {cause}"),
-        (None, None) => eprintln!(rt; "txkv: {message}"),
+    let Ok(file) = escaped(rt.alloc(), file.unwrap_or_default()) else {
+        return;
+    };
+    let between = if file.is_empty() { "" } else { ": " };
+    let _ = match stopped.cause {
+        Some(cause) => eprintln!(rt; "txkv: {file}{between}{message}: {cause}"),
+        None => eprintln!(rt; "txkv: {file}{between}{message}"),
     };
 }
 
@@ -55,28 +70,62 @@ fn words<R: Env + AllocGlobal>(rt: &R) -> io::Result<Vec<String>> {
     Ok(words)
 }
 
+// How many places a line of help has: as many as the terminal, where that is said.
+fn width<R: Env + AllocGlobal>(rt: &R) -> usize {
+    match env::var(rt, "COLUMNS") {
+        Ok(columns) => width_of(Some(columns.as_str())),
+        Err(_) => width_of(None),
+    }
+}
+
+// Tells a fault of the command line, in lines of so many places.
+fn tell_fault<R: Eprint + AllocGlobal>(
+    rt: &R,
+    error: &clap::Error,
+    width: usize,
+) -> Result<CommandEnd, Broken> {
+    let alloc = rt.alloc();
+    let told = match format!(in alloc; "{error}") {
+        Ok(text) => wrapped(alloc, text.as_str(), width),
+        Err(error) => Err(error),
+    };
+    let Ok(told) = told else {
+        return Err(broken(rt, Broken::Memory, None));
+    };
+    match eprint!(rt; "{told}") {
+        Ok(()) => Ok(CommandEnd::Faulted),
+        Err(cause) => Err(broken(rt, Broken::Output, Some(cause))),
+    }
+}
+
 // A request for help or the version ends well, on standard output; a fault of the command line is
 // told on standard error.
-fn report<R: Print + Eprint>(rt: &R, error: &clap::Error) -> Result<CommandEnd, Broken> {
+fn report<R: Print + Eprint + AllocGlobal>(
+    rt: &R,
+    error: &clap::Error,
+    width: usize,
+) -> Result<CommandEnd, Broken> {
     if error.kind() == ErrorKind::OutOfMemory {
         return Err(broken(rt, Broken::Memory, None));
     }
+    if error.use_stderr() {
+        return tell_fault(rt, error, width);
+    }
     match error.print(rt) {
         Err(cause) => Err(broken(rt, Broken::Output, Some(cause))),
-        Ok(()) if error.use_stderr() => Ok(CommandEnd::Faulted),
         Ok(()) => Ok(CommandEnd::Well),
     }
 }
 
 // Warns of what was broken off before any job.
-fn broken<R: Eprint>(rt: &R, why: Broken, cause: Option<io::Error>) -> Broken {
+fn broken<R: Eprint + AllocGlobal>(rt: &R, why: Broken, cause: Option<io::Error>) -> Broken {
     warn(rt, None, Stopped { why, cause });
     why
 }
 
 // The words of the command line could not be read: there was no room for them, or one of them is
 // not UTF-8.
-fn unread<R: Eprint>(rt: &R, error: &io::Error) -> Result<CommandEnd, Broken> {
+fn unread<R: Eprint + AllocGlobal>(rt: &R, error: &io::Error) -> Result<CommandEnd, Broken> {
     if error.kind() == io::ErrorKind::OutOfMemory {
         return Err(broken(rt, Broken::Memory, None));
     }
@@ -121,11 +170,13 @@ where
     R: Env + Input + Files + Print + Eprint + AllocGlobal + Threads + Wait,
     R: Sync + Send + Clone + Drop,
 {
-    let end = match words(rt) {
+    let words = words(rt);
+    let width = width(rt);
+    let end = match words {
         Err(error) => unread(rt, &error),
-        Ok(words) => match parse(rt.alloc(), words.as_slice()) {
+        Ok(words) => match parse(rt.alloc(), words.as_slice(), width) {
             Ok(matches) => start(rt, host, job_of(&matches)),
-            Err(error) => report(rt, &error),
+            Err(error) => report(rt, &error, width),
         },
     };
     ExitCode::from(status_of(end))

@@ -1,5 +1,5 @@
 -- Seats and sessions that go on, one call after another.
-use Rattle.std.proofs.Common.{◌≡◌, inl, inr, ℕ, Bool, true, false, List, [], ◌∷◌, ◌++◌, length, nat_lt, Option, Some, None, Result, Ok, Err, OnOk, OnErr, refl, sym, ap, subst, ◌∙◌}
+use Rattle.std.proofs.Common.{◌≡◌, ◌≢◌, not, ◌&&◌, ◌||◌, inl, inr, ℕ, Bool, true, false, List, [], ◌∷◌, ◌++◌, length, nat_lt, Option, Some, None, Result, Ok, Err, OnOk, OnErr, refl, sym, ap, subst, ◌∙◌}
 use Rattle.tx_types.specs.declared.key.Key.{Key}
 use Rattle.tx_types.specs.declared.fault.Fault.{Fault}
 use Rattle.tx_types.specs.declared.mutation.KeyValue.{KeyValue}
@@ -19,10 +19,12 @@ use Rattle.tx_journal.specs.Replies.{Asked}
 use Rattle.tx_journal.proofs.Calls.{drawn_recorded}
 use Rattle.tx_transaction.specs.declared.state.Miss.{Miss}
 use Rattle.tx_transaction.specs.declared.state.Phase.{Phase}
+use Rattle.tx_transaction.specs.declared.state.Phase.TheVariants as phase
+use Rattle.tx_types.specs.declared.mutation.Fate.{Fate}
 use Rattle.tx_transaction.specs.declared.state.Due.{Due}
-use Rattle.tx_transaction.specs.Buffers.{buffered}
-use Rattle.tx_transaction.specs.Sessions.{SessionState, after_response, after_read, with_passed}
-use Rattle.tx_transaction.specs.Returns.{Response}
+use Rattle.tx_transaction.specs.Buffers.{buffered, not_empty}
+use Rattle.tx_transaction.specs.Sessions.{SessionState, is_declared, has_primary, commit_drawn, commit_by, commit_if, due_commit, may_commit, can_commit, after_response, after_read, with_passed, undecided, finish_by, finish_of}
+use Rattle.tx_transaction.specs.Returns.{Response, returned}
 use Rattle.tx_journal.specs.Senders.{Reached}
 use Rattle.tx_client.specs.Learns.{response_of, Learns}
 use Rattle.tx_client.specs.Walks.{Walk, asks, grows, ends, then_walk, Sends, due_walk, part_by, part_walk, get_by, get_walk, enough, scan_after, scan_from, scan_walk, greater, lesser}
@@ -250,6 +252,46 @@ follows_more a b c p q = record {
   placed = q.placed ∙ p.placed;
 }
 
+-- a session that may commit, and has no outcome, has a commit that is due
+open_undecided : (s : SessionState) (o : Option Fate) → finish_by s o ≡ None → (o ≡ None) × (has_primary s ≡ true)
+open_undecided s (Some end) e = absurd (cc (e))
+open_undecided s None e = (refl, by (has_primary s) e)
+  where
+    by : (b : Bool) → undecided s b ≡ None → b ≡ true
+    by true e = refl
+    by false e = absurd (cc (e))
+
+none_drawn : (s : SessionState) (o : Option ℕ) → commit_drawn s o ≡ None → o ≡ None
+none_drawn s None e = refl
+none_drawn s (Some c) e = absurd (cc (e))
+
+may_not : (dec some : Bool) (d : Option Fate) (o : Option ℕ) → d ≡ None → o ≡ None → dec && some ≡ true
+    → dec && (not some || may_commit d o) ≡ true → ⊥
+may_not true true None None p q h e = cc (e)
+may_not true true None (Some c) p q h e = cc (q)
+may_not true true (Some end) o p q h e = cc (p)
+may_not true false d o p q h e = cc (h)
+may_not false some d o p q h e = cc (h)
+
+none_due : (s : SessionState) → can_commit s ≡ true → due_commit s ≡ None → finish_of s ≢ None
+none_due s can due unended =
+    let both = open_undecided s s.decision unended in
+    may_not (is_declared s) (not_empty s.buffer) s.decision s.drawn both.0
+    (none_drawn s s.drawn
+    (subst (λ (o : Option Fate). commit_by s o ≡ None) both.0
+    (subst (λ (b : Bool). commit_if s b ≡ None) both.1 due)))
+    both.1 can
+
+ends_due : (s : SessionState) → can_commit s ≡ true → (due : Option Due) → due_commit s ≡ due
+    → EndsIn (λ (y : SessionState × Result (Option Answer) Miss). y.1 ≡ Ok None → finish_of y.0 ≢ None)
+    (due_walk s phase.Commit due)
+ends_due s can None is = λ same. none_due s can is
+ends_due s can (Some due) is = (by, λ same unended. cc (same))
+  where
+    by : (c : Response) → returned c ≡ Ok None → finish_of (after_response s phase.Commit due.index c) ≢ None
+    by (Ok a) same unended = cc (same)
+    by (Err why) same unended = cc (same)
+
 module _ {S : Type 0} (sends : S → Asked → Reached → S → Type 0) (bounds : List Key) where
   -- the request of a phase is sent
   pub follows_due : (old new : Seated) (from to : S) (x : Phase) (due : Option Due) (r : Result (Option Answer) Miss)
@@ -265,6 +307,15 @@ module _ {S : Type 0} (sends : S → Asked → Reached → S → Type 0) (bounds
         declared = stays.declared;
         placed = stays.placed;
       }
+
+  -- where no commit is due of a session that may commit, it has an outcome
+  pub commit_ends : (old new : Seated) (from to : S) (r : Result (Option Answer) Miss) → can_commit old.state ≡ true
+      → Sends sends bounds old.seat from (due_walk old.state phase.Commit (due_commit old.state)) (new.state, r) to
+      new.seat → r ≡ Ok None → finish_of new.state ≢ None
+  commit_ends old new from to r can sent is =
+      sent_ends sends bounds (λ (y : SessionState × Result (Option Answer) Miss). y.1 ≡ Ok None → finish_of y.0 ≢ None)
+      (due_walk old.state phase.Commit (due_commit old.state)) old.seat new.seat from to (new.state, r)
+      (ends_due old.state can (due_commit old.state) refl) sent is
 
   read_follows : (old new : Seated) (from to : S) (w : Walk (SessionState × Result Answer Miss)) (r :
       Result Answer Miss) → EndsIn (HasRead old.state) w → Sends sends bounds old.seat from w (new.state, r) to new.seat

@@ -1,5 +1,5 @@
 -- A session's commit lies above those that its seat knew to be decided before it declared.
-use Rattle.std.proofs.Common.{◌≡◌, ◌⊎◌, inl, inr, ℕ, Bool, true, false, List, [], ◌∷◌, Option, Some, None, is_some, ◌&&◌, refl, sym, ap, subst, ◌∙◌}
+use Rattle.std.proofs.Common.{◌≡◌, ◌⊎◌, inl, inr, ℕ, Bool, true, false, List, [], ◌∷◌, Option, Some, None, is_some, Result, Ok, Err, OnOk, IfErr, ◌&&◌, refl, sym, ap, subst, ◌∙◌}
 use Rattle.tx_types.specs.declared.key.Key.{Key}
 use Rattle.tx_types.specs.declared.mutation.Fate.{Fate}
 use Rattle.tx_types.specs.declared.mutation.Fate.TheVariants as fate
@@ -10,18 +10,23 @@ use Rattle.tx_core.specs.declared.event.Event.TheVariants.{Answered}
 use Rattle.tx_core.specs.Histories.{History, declared, Begins}
 use Rattle.tx_core.specs.Laws.{DecidedBefore}
 use Rattle.tx_core.specs.Worlds.{IsWorldRun}
+use Rattle.tx_core.proofs.seats.Stays.{declared_on}
 use Rattle.tx_core.proofs.seats.StaysDecided.{decided_on}
 use Rattle.tx_core.proofs.runs.CommitOrder.{decided_before_on}
 use Rattle.tx_core.proofs.runs.Consequences.{decided_declared}
 use Rattle.tx_transaction.specs.declared.state.Terms.{Terms}
 use Rattle.tx_transaction.specs.Buffers.{Entries, not_empty}
-use Rattle.tx_transaction.specs.Sessions.{SessionState, is_declared, has_primary, unknown_by, undecided, finish_by, finish_of}
-use Rattle.tx_client.specs.Calls.{Seated, Records, IsDecidedSo}
+use Rattle.tx_transaction.specs.Sessions.{SessionState, is_declared, has_primary, declaration, declaration_of, unknown_by, undecided, finish_by, finish_of}
+use Rattle.tx_client.specs.Calls.{Seated, Records, RecordsDeclared, IsDecidedSo}
 use Rattle.tx_client.specs.Facts.{standing}
 use Rattle.tx_client.specs.Order.{IsDrawnAfter, CommitsAbove}
 use Rattle.tx_journal.specs.Known.{Known}
-use Rattle.tx_simple.specs.Updates.{IsWithoutEffect, CameToNothing, SeatGoesOn, Follows, MayHaveDeclared, EndedWith, CommitsAboveKnown}
-use Rattle.tx_simple.proofs.CallSequences.{goes_more, goes_begins}
+use Rattle.tx_simple.specs.declared.stops.Stop.{Stop}
+use Rattle.tx_simple.specs.declared.failure.Failure.{Failure}
+use Rattle.tx_simple.specs.Stops.{IsOwnRefusal}
+use Rattle.tx_simple.specs.Failures.{failure_in, IsOpenStop}
+use Rattle.tx_simple.specs.Updates.{HasOutcome, IsWithoutEffect, CameToNothing, SeatGoesOn, Follows, MayHaveDeclared, EndedWith, CommitsAboveKnown, Wrote}
+use Rattle.tx_simple.proofs.CallSequences.{goes_itself, goes_more, goes_begins}
 
 -- what declares nothing has no primary
 pub nothing_declared : (s : SessionState) → is_declared s ≡ false → has_primary s ≡ false
@@ -166,3 +171,87 @@ ended_so bounds begun session end t new run stands writes is (outcome, recorded,
   },
   refl,
 )
+
+-- ---- nothing is declared
+
+stands_none_of : (start placed : ℕ) (es : Entries) (o : Option Terms) → is_some o ≡ false
+    → standing start placed es o ≡ None
+stands_none_of start placed es None e = refl
+stands_none_of start placed es (Some terms) e = absurd (cc (e))
+
+-- of a session that declared nothing, nothing stands declared
+pub open_stands : (s : Seated) → is_declared s.state ≡ false
+    → declared s.seat.events s.state.start
+    ≡ standing s.state.start s.state.placed s.state.buffer s.state.declared
+    → declared s.seat.events s.state.start ≡ None
+open_stands s none stands = stands ∙ stands_none_of s.state.start s.state.placed s.state.buffer s.state.declared none
+
+-- ---- an outcome is there
+
+-- of what declared nothing there is one
+pub no_primary_ends : (s : Seated) → has_primary s.state ≡ false → HasOutcome s
+no_primary_ends s none unended = by s.state.decision unended
+  where
+    by : (o : Option Fate) → finish_by s.state o ≡ None → ⊥
+    by (Some end) e = cc (e)
+    by None e = cc (subst (λ (b : Bool). undecided s.state b ≡ None) none e)
+
+-- where nothing stopped it, or it was refused something
+pub open_stop : {E : Type 0} (done : Result (Unit {0}) Stop) (P : Type 0) (failed : Option (Failure E))
+    → failed ≡ failure_in done → OnOk done P → IfErr done (λ (s : Stop). IsOwnRefusal s ⊎ P) → IsOpenStop failed ⊎ P
+open_stop (Ok x) P failed is ok err = inr ok
+open_stop {E} (Err stop) P failed is ok err = subst (λ (f : Option (Failure E)). IsOpenStop f ⊎ P) (sym is) err
+
+-- a session that declared nothing
+pub undeclared_ends : (s : Seated) → is_declared s.state ≡ false → HasOutcome s
+undeclared_ends s none = no_primary_ends s (nothing_declared s.state none)
+
+-- ---- what is written
+
+-- what is declared stays declared
+declaration_on : (bounds : List Key) (start placed : ℕ) (es : Entries) (terms : Terms) (mid new : Known)
+    → not_empty es ≡ true → IsWorldRun bounds new.events → SeatGoesOn mid new
+    → declared mid.events start ≡ declaration start placed es terms
+    → declared new.events start ≡ declaration start placed es terms
+declaration_on bounds start placed [] terms mid new some run goes stands = absurd (cc (some))
+declaration_on bounds start placed (e ∷ es) terms mid new some run goes stands =
+    declared_on bounds mid.events new.events run (goes_begins mid new goes) start
+    (declaration_of start placed (e ∷ es) terms) stands
+
+module _ (bounds : List Key) (terms : Terms) (old mid : Seated)
+    (is : mid.state ≡ record old.state { declared = Some terms; placed = mid.state.placed })
+    (declares : RecordsDeclared bounds old.seat
+    (declaration old.state.start mid.state.placed old.state.buffer terms) mid.seat)
+    (stands : declared mid.seat.events mid.state.start
+    ≡ standing mid.state.start mid.state.placed mid.state.buffer mid.state.declared) where
+  stands_so : declared mid.seat.events old.state.start
+      ≡ declaration old.state.start mid.state.placed old.state.buffer terms
+  stands_so = subst (λ (s : SessionState). declared mid.seat.events s.start
+      ≡ standing s.start mid.state.placed s.buffer s.declared) is stands
+
+  -- a session that declared has written what was entered
+  pub wrote_there : Wrote bounds terms old.state.start old.state.buffer old.seat mid.seat
+  wrote_there = record {
+    placed = mid.state.placed;
+    after = mid.seat;
+    declares = declares;
+    goes = goes_itself mid.seat;
+    stands = stands_so;
+  }
+
+  -- and so it has where it went on
+  pub wrote_on : (new : Known) → has_primary mid.state ≡ true → IsWorldRun bounds new.events → SeatGoesOn mid.seat new
+      → Wrote bounds terms old.state.start old.state.buffer old.seat new
+  wrote_on new some run goes = record {
+    placed = mid.state.placed;
+    after = mid.seat;
+    declares = declares;
+    goes = goes;
+    stands = declaration_on bounds old.state.start mid.state.placed old.state.buffer terms mid.seat new
+        (some_entered old mid (ap (λ (s : SessionState). s.buffer) is) some) run goes stands_so;
+  }
+
+-- where it went well or not
+pub well_or_not : {A E : Type 0} (r : Result A E) (P : Type 0) → P → OnOk r P
+well_or_not (Ok v) P is = is
+well_or_not (Err e) P is = tt

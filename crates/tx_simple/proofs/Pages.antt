@@ -1,6 +1,6 @@
 -- The rows of pages, one behind the other, are the rows of their range, and its last key may be
 -- read by itself.
-use Rattle.std.proofs.Common.{◌≡◌, ◌⊎◌, ◌&&◌, inl, inr, Bool, List, [], ◌∷◌, ◌++◌, Option, Some, None, IsTrue, refl, sym, subst, ◌∙◌}
+use Rattle.std.proofs.Common.{◌≡◌, ◌⊎◌, ◌&&◌, inl, inr, ℕ, Bool, List, [], ◌∷◌, ◌++◌, Option, Some, None, IsTrue, refl, sym, subst, ◌∙◌}
 use Rattle.tx_types.specs.declared.key.Key.{Key}
 use Rattle.tx_types.specs.declared.value.Value.{Value}
 use Rattle.tx_types.specs.declared.mutation.KeyValue.{KeyValue}
@@ -90,27 +90,35 @@ module _ (tells : Key → Option Value → Type 0) (from to : Key) where
     inr refl,
   )
 
-  module _ (at end next : Key) (old page front : List KeyValue) (h : AreSoFar at old) (on : IsTrue (key_le at end))
-      (upto : IsTrue (key_le end to)) (p : AreRowsOf (is_scanned at end 1024 page) tells page) where
+  module _ (limit : ℕ) (at end next : Key) (old page front : List KeyValue) (h : AreSoFar at old)
+      (on : IsTrue (key_le at end)) (upto : IsTrue (key_le end to))
+      (p : AreRowsOf (is_scanned at end limit page) tells page) where
     -- one page more
-    pub more_so_far : IsSplit page end front next → AreSoFar next (old ++ front)
+    pub more_so_far : IsSplit limit page end front next → AreSoFar next (old ++ front)
     more_so_far (inl (short, rows, same)) =
         subst (λ (k : Key). AreSoFar k (old ++ front)) (sym same)
         (subst (λ (r : List KeyValue). AreSoFar end (old ++ r)) (sym rows) (
-          joined tells from at end h.1 on old page h.0 (short_page tells at end 1024 page p short),
+          joined tells from at end h.1 on old page h.0 (short_page tells at end limit page p short),
           le_trans from at end h.1 on,
           inl upto,
         ))
     more_so_far (inr (v, is)) =
-        let q : AreRowsOf (is_scanned at end 1024 (front ++ row_with next v ∷ [])) tells
+        let q : AreRowsOf (is_scanned at end limit (front ++ row_with next v ∷ [])) tells
         (front ++ row_with next v ∷ []) =
-        subst (λ (r : List KeyValue). AreRowsOf (is_scanned at end 1024 r) tells r) is p in
-        let inside = between_both at end next (last_within tells at end 1024 front (row_with next v) q) in (
+        subst (λ (r : List KeyValue). AreRowsOf (is_scanned at end limit r) tells r) is p in
+        let inside = between_both at end next (last_within tells at end limit front (row_with next v) q) in (
           joined tells from at next h.1 inside.0 old front h.0
-              (front_of_page tells at end 1024 front (row_with next v) q),
+              (front_of_page tells at end limit front (row_with next v) q),
           le_trans from at next h.1 inside.0,
           inl (le_trans next end to (lt_le next end inside.1) upto),
         )
+
+  -- a page at the front
+  pub first_page : (limit : ℕ) (next : Key) (page front : List KeyValue) → IsTrue (key_le from to)
+      → AreRowsOf (is_scanned from to limit page) tells page → IsSplit limit page to front next
+      → AreRowsOf (is_between from next) tells front
+  first_page limit next page front on p split =
+      (more_so_far limit from to next [] page front none_so_far on (le_itself to) p split).0
 
   -- all are there once the next page would begin at the end
   pub all_so_far : (next : Key) (rows : List KeyValue) → AreSoFar next rows → IsTrue (key_le to next)

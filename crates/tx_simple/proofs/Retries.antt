@@ -1,5 +1,5 @@
 -- How a try ends after tries that came to nothing, so the whole ends.
-use Rattle.std.proofs.Common.{◌≡◌, ◌≤◌, ◌+◌, arith, ℕ, zero, suc, true, List, Option, Result, Ok, Err, IfOk, IfErr, refl, sym, ap, subst, ◌∙◌}
+use Rattle.std.proofs.Common.{◌≡◌, ◌⊎◌, inl, inr, ◌≤◌, ◌+◌, arith, ℕ, zero, suc, true, List, Option, None, Result, Ok, Err, IfOk, IfErr, refl, sym, ap, subst, ◌∙◌}
 use Rattle.tx_types.specs.declared.key.Key.{Key}
 use Rattle.tx_core.specs.declared.event.Event.TheVariants.{Answered}
 use Rattle.tx_core.specs.Histories.{Begins}
@@ -13,17 +13,17 @@ use Rattle.tx_simple.specs.declared.ended.Seats.{Seats}
 use Rattle.tx_simple.specs.declared.ended.Ended.{Ended}
 use Rattle.tx_simple.specs.declared.ended.Unended.{Unended}
 use Rattle.tx_simple.specs.declared.ended.Unended.TheVariants.{Spent, Open}
-use Rattle.tx_simple.specs.Failures.{may_go_further}
-use Rattle.tx_simple.specs.Updates.{IsWithoutEffect, SeatGoesOn, MayHaveDeclared, Works, ComesToNothing, TriesInVain}
-use Rattle.tx_simple.specs.Endings.{EndsFrom, EndsOver, IsOpen, StaysOpen, IsUnended}
+use Rattle.tx_simple.specs.declared.stops.Stop.{Stop}
+use Rattle.tx_simple.specs.Failures.{EndsAt, IsOpenStop, may_go_further}
+use Rattle.tx_simple.specs.Updates.{HasOutcome, IsWithoutEffect, SeatGoesOn, MayHaveDeclared, Works, ComesToNothing, TriesInVain}
+use Rattle.tx_simple.specs.Endings.{EndsFrom, EndsOver, IsLastTry, IsOpen, StaysOpen, IsUnended}
 use Rattle.tx_simple.proofs.CallSequences.{goes_itself, goes_more, goes_begins, began_begins, recorded_begins}
 use Rattle.tx_simple.proofs.CommitOrder.{known_on}
 
 -- ---- tries in vain
 
-module _ {W O E : Type 0} (does : W → Entries → Result O (Failure E) → Entries → W
-    → Type 0) (bounds : List Key) (terms :
-    Terms) where
+module _ {W O E : Type 0} (does : W → Entries → Result O (Failure E) → Entries → W → Type 0) (bounds : List Key)
+    (terms : Terms) where
   one_begins : (old new : Known) (v w : W) → ComesToNothing does bounds terms old new v w → Begins old.events new.events
   one_begins old new v w t =
       let session = t.ends.session in
@@ -39,7 +39,8 @@ module _ {W O E : Type 0} (does : W → Entries → Result O (Failure E) → Ent
   vain_begins zero old new v w same =
       subst (λ (k : Known). Begins old.events k.events) (sym same.0) (begins_all old.events)
   vain_begins (suc n) old new v w (mid, x, vain, one) =
-      begins_more old.events mid.events new.events (vain_begins n old mid v x vain) (one_begins mid new x w one)
+      begins_more old.events mid.events new.events (vain_begins n old mid v x vain)
+      (one_begins mid new x w one)
 
   -- from where they left off
   vain_to : (n : ℕ) (old a b : Known) (v w x : W) → (b ≡ a) × (x ≡ w) → TriesInVain does bounds terms n old a v w
@@ -48,27 +49,26 @@ module _ {W O E : Type 0} (does : W → Entries → Result O (Failure E) → Ent
       subst (λ (k : Known). TriesInVain does bounds terms n old k v x) (sym same.0)
       (subst (λ (y : W). TriesInVain does bounds terms n old a v y) (sym same.1) vain)
 
-module _ {J W O E : Type 0} (does : W → Entries → Result O (Failure E) → Entries → W
-    → Type 0) (bounds : List Key) (terms :
-    Terms) where
-  -- the seats, and the work, after at most so many tries in vain
+module _ {J W O E : Type 0} (does : W → Entries → Result O (Failure E) → Entries → W → Type 0) (bounds : List Key)
+    (terms : Terms) where
+  -- the seats, and the work, after so many tries in vain
   abbrev pub InVain : ℕ → Seats J → W → Seats J → W → Type 0
-  InVain upto old v new w = (n : ℕ) × (n ≤ upto) × TriesInVain does bounds terms n old.begins new.begins v w
+  InVain n old v new w = TriesInVain does bounds terms n old.begins new.begins v w
       × SeatGoesOn old.resolves new.resolves
 
   pub vain_itself : (seats : Seats J) (w : W) → InVain 0 seats w seats w
-  vain_itself seats w = (0, omega arith, (refl, refl), goes_itself seats.resolves)
+  vain_itself seats w = ((refl, refl), goes_itself seats.resolves)
 
   -- a session began over the seats, and has no outcome
   pub unended_in : (old : Seats J) (begun session : Seated) (resolves : Known) (value : Option O)
       (stop : Option (Failure E)) (r :
       Result (Ended J O E) (Unended J E)) (v w : W) → BeganAt bounds old.begins begun.state.start begun.seat
       → MayHaveDeclared begun session → Works does bounds terms begun session value stop v w
-      → SeatGoesOn old.resolves resolves → IfErr r (IsOpen session resolves stop)
+      → SeatGoesOn old.resolves resolves → IsOpenStop stop ⊎ HasOutcome session → IfErr r (IsOpen session resolves stop)
       → IfErr r (λ (u : Unended J E). IsUnended does bounds terms old v 0 u w)
-  unended_in old begun session resolves value stop (Ok e) v w began writes works goes is = tt
-  unended_in old begun session resolves value stop (Err (Spent s)) v w began writes works goes is = absurd is
-  unended_in old begun session resolves value stop (Err (Open again same why)) v w began writes works goes is = (
+  unended_in old begun session resolves value stop (Ok e) v w began writes works goes ended is = tt
+  unended_in old begun session resolves value stop (Err (Spent s)) v w began writes works goes ended is = absurd is
+  unended_in old begun session resolves value stop (Err (Open again same why)) v w began writes works goes ended is = (
     old.begins,
     v,
     (refl, refl),
@@ -82,26 +82,30 @@ module _ {J W O E : Type 0} (does : W → Entries → Result O (Failure E) → E
           works = subst (λ (o : Option (Failure E)). Works does bounds terms begun session value o v w) (sym is.3)
               works;
           none = is.0;
+          stopped = elim ended [
+            | inl refused ↦ subst (λ (o : Option (Failure E)). IsOpenStop o) (sym is.3) refused
+            | inr outcome ↦ absurd (outcome is.0)
+          ];
         }),
     subst (λ (k : Known). SeatGoesOn old.resolves k) (sym is.2) goes,
   )
 
-  pub unended_after : (upto again : ℕ) → upto ≤ again → (old mid : Seats J) (u : Unended J E) (v x w : W)
-      → InVain upto old v mid x → IsUnended does bounds terms mid x 0 u w → (n : ℕ) × (n ≤ again)
-      × IsUnended does bounds terms old v n u w
-  unended_after upto again le old mid (Spent s) v x w (n, few, vain, goes) is = (
+  pub unended_after : (n again : ℕ) → n ≤ again → (old mid : Seats J) (u : Unended J E) (v x w : W)
+      → InVain n old v mid x → IsUnended does bounds terms mid x 0 u w → (m : ℕ) × (m ≤ again)
+      × IsUnended does bounds terms old v m u w
+  unended_after n again le old mid (Spent s) v x w (vain, goes) is = (
     n,
-    omega arith,
+    le,
     (
       vain_to does bounds terms n old.begins mid.begins s.begins v x w is.0 vain,
       goes_more old.resolves mid.resolves s.resolves goes is.1,
       is.2,
     ),
   )
-  unended_after upto again le old mid (Open session resolves stop) v x w (n, few, vain, goes)
+  unended_after n again le old mid (Open session resolves stop) v x w (vain, goes)
       (last, between, same, stays, on) = (
         n,
-        omega arith,
+        le,
         (
           last,
           between,
@@ -111,13 +115,13 @@ module _ {J W O E : Type 0} (does : W → Entries → Result O (Failure E) → E
         ),
       )
 
-  pub if_unended_after : (upto again : ℕ) → upto ≤ again
+  pub if_unended_after : (n again : ℕ) → n ≤ again
       → (old mid : Seats J) (r : Result (Ended J O E) (Unended J E)) (v x w : W)
-      → InVain upto old v mid x
+      → InVain n old v mid x
       → IfErr r (λ (u : Unended J E). IsUnended does bounds terms mid x 0 u w)
-      → IfErr r (λ (u : Unended J E). (n : ℕ) × (n ≤ again) × IsUnended does bounds terms old v n u w)
-  if_unended_after upto again le old mid (Ok e) v x w vain is = tt
-  if_unended_after upto again le old mid (Err u) v x w vain is = unended_after upto again le old mid u v x w vain is
+      → IfErr r (λ (u : Unended J E). (m : ℕ) × (m ≤ again) × IsUnended does bounds terms old v m u w)
+  if_unended_after n again le old mid (Ok e) v x w vain is = tt
+  if_unended_after n again le old mid (Err u) v x w vain is = unended_after n again le old mid u v x w vain is
 
   -- a session began over the seats, and finished
   pub ended_over : (old : Seats J) (begun session : Seated) (resolves : Known) (value : Option O)
@@ -146,59 +150,76 @@ module _ {J W O E : Type 0} (does : W → Entries → Result O (Failure E) → E
       }
 
   -- tries before it were in vain
-  pub over_after : (upto again : ℕ) → upto ≤ again → (old mid : Seats J) (e : Ended J O E) (v x w : W)
-      → InVain upto old v mid x → EndsOver does bounds terms mid x 0 e w → (n : ℕ) × (n ≤ again)
-      × EndsOver does bounds terms old v n e w
-  over_after upto again le old mid e v x w (n, few, vain, goes) over = (
-    n,
-    omega arith,
-    record {
-      last = over.last;
-      between = over.between;
-      vain = vain_to does bounds terms n old.begins mid.begins over.last v x over.between over.vain vain;
-      begun = over.begun;
-      began = over.began;
-      ends = over.ends;
-      start = over.start;
-      works = over.works;
-      above = known_on old.begins.events mid.begins.events
-          (vain_begins does bounds terms n old.begins mid.begins v x vain) e.outcome over.above;
-      resolves = goes_more old.resolves mid.resolves e.seats.resolves goes over.resolves;
-    },
-  )
+  pub over_after : (n again : ℕ) → n ≤ again → (old mid : Seats J) (e : Ended J O E) (v x w : W)
+      → InVain n old v mid x → EndsOver does bounds terms mid x 0 e w → e.retries ≡ n
+      → (e.retries ≤ again) × EndsOver does bounds terms old v e.retries e w
+  over_after n again le old mid e v x w (vain, goes) over count = subst
+      (λ (m : ℕ). (m ≤ again) × EndsOver does bounds terms old v m e w) (sym count) (
+        le,
+        record {
+          last = over.last;
+          between = over.between;
+          vain = vain_to does bounds terms n old.begins mid.begins over.last v x over.between over.vain vain;
+          begun = over.begun;
+          began = over.began;
+          ends = over.ends;
+          start = over.start;
+          works = over.works;
+          above = known_on old.begins.events mid.begins.events
+              (vain_begins does bounds terms n old.begins mid.begins v x vain) e.outcome over.above;
+          resolves = goes_more old.resolves mid.resolves e.seats.resolves goes over.resolves;
+        },
+      )
 
-  pub if_over_after : (upto again : ℕ) → upto ≤ again → (old mid : Seats J) (r : Result (Ended J O E) (Unended J E))
+  pub if_over_after : (n again : ℕ) → n ≤ again → (old mid : Seats J) (r : Result (Ended J O E) (Unended J E))
       (v x w : W)
-      → InVain upto old v mid x
+      → InVain n old v mid x
       → IfOk r (λ (e : Ended J O E). EndsOver does bounds terms mid x 0 e w)
-      → IfOk r (λ (e : Ended J O E). (n : ℕ) × (n ≤ again) × EndsOver does bounds terms old v n e w)
-  if_over_after upto again le old mid (Ok e) v x w vain over = over_after upto again le old mid e v x w vain over
-  if_over_after upto again le old mid (Err u) v x w vain over = tt
+      → IfOk r (λ (e : Ended J O E). e.retries ≡ n)
+      → IfOk r (λ (e : Ended J O E). (e.retries ≤ again) × EndsOver does bounds terms old v e.retries e w)
+  if_over_after n again le old mid (Ok e) v x w vain over count =
+      over_after n again le old mid e v x w vain over count
+  if_over_after n again le old mid (Err u) v x w vain over count = tt
 
   -- one more in vain
-  pub vain_again : (upto : ℕ) (old mid : Seats J) (e : Ended J O E) (v x w : W) → InVain upto old v mid x
+  pub vain_again : (n : ℕ) (old mid : Seats J) (e : Ended J O E) (v x w : W) → InVain n old v mid x
       → EndsOver does bounds terms mid x 0 e w → IsWithoutEffect e.outcome → may_go_further e.outcome e.stop ≡ true
-      → InVain (upto + 1) old v e.seats w
-  vain_again upto old mid e v x w (n, few, vain, goes) over none passes = (
-    suc n,
-    omega arith,
-    (
-      over.last,
-      over.between,
-      vain_to does bounds terms n old.begins mid.begins over.last v x over.between over.vain vain,
-      record {
-        begun = over.begun;
-        began = over.began;
-        start = e.start;
-        end = e.outcome;
-        ends = over.ends;
-        same = over.start;
-        nothing = over.ends.nothing none;
-        value = e.value;
-        stop = e.stop;
-        passes = passes;
-        works = over.works;
-      },
-    ),
-    goes_more old.resolves mid.resolves e.seats.resolves goes over.resolves,
-  )
+      → InVain (n + 1) old v e.seats w
+  vain_again n old mid e v x w (vain, goes) over none passes =
+      let up : suc n ≡ n + 1 = omega arith in
+      subst (λ (m : ℕ). InVain m old v e.seats w) up (
+        (
+          over.last,
+          over.between,
+          vain_to does bounds terms n old.begins mid.begins over.last v x over.between over.vain vain,
+          record {
+            begun = over.begun;
+            began = over.began;
+            start = e.start;
+            end = e.outcome;
+            ends = over.ends;
+            same = over.start;
+            nothing = over.ends.nothing none;
+            value = e.value;
+            stop = e.stop;
+            passes = passes;
+            works = over.works;
+          },
+        ),
+        goes_more old.resolves mid.resolves e.seats.resolves goes over.resolves,
+      )
+
+-- ---- the last try
+
+module _ {J W O E : Type 0} (stops_at : W → ℕ → Stop → Type 0) (again : ℕ) where
+  -- the work is not to be tried again
+  pub last_says : (n : ℕ) (e : Ended J O E) (w : W) → e.retries ≡ n → EndsAt stops_at w (n + 1) e.stop
+      → IsLastTry stops_at again e.retries e w
+  last_says n e w count says =
+      inr (inr (subst (λ (m : ℕ). EndsAt stops_at w (m + 1) e.stop) (sym count) says))
+
+  -- no other may be made
+  pub if_last_all : (r : Result (Ended J O E) (Unended J E)) (w : W) → IfOk r (λ (e : Ended J O E). e.retries ≡ again)
+      → IfOk r (λ (e : Ended J O E). IsLastTry stops_at again e.retries e w)
+  if_last_all (Ok e) w count = inl count
+  if_last_all (Err u) w count = tt

@@ -1,5 +1,5 @@
 -- How an update ends.
-use Rattle.std.specs.Prelude.{◌≡◌, ◌<◌, ℕ, List, Option, None, Result}
+use Rattle.std.specs.Prelude.{◌≡◌, ◌⊎◌, ◌<◌, ◌+◌, ℕ, false, List, Option, None, Result}
 use Rattle.tx_types.specs.declared.key.Key.{Key}
 use Rattle.tx_journal.specs.Known.{Known}
 use Rattle.tx_transaction.specs.Sessions.{finish_of}
@@ -11,6 +11,8 @@ use Rattle.tx_simple.specs.declared.ended.Seats.{Seats}
 use Rattle.tx_simple.specs.declared.ended.Ended.{Ended}
 use Rattle.tx_simple.specs.declared.ended.Unended.{Unended}
 use Rattle.tx_simple.specs.declared.ended.Unended.TheVariants as unended
+use Rattle.tx_simple.specs.declared.stops.Stop.{Stop}
+use Rattle.tx_simple.specs.Failures.{IsOpenStop, EndsAt, may_go_further}
 use Rattle.tx_simple.specs.Updates.{SeatGoesOn, EndedWith, TriesInVain, Works, CommitsAboveKnown}
 
 -- the session over this seat ended so, with this value, this stopped it, and the other seat is this
@@ -29,7 +31,8 @@ IsOpen session resolves stop (unended.Open again same why) = (finish_of session.
 
 module _ {W O E : Type 0} (does : W → Entries → Result O (Failure E) → Entries → W → Type 0)
     (bounds : List Key) (terms : Terms) where
-  -- a session began over this seat, the work was done in it, and it has no outcome
+  -- a session began over this seat, the work was done in it, it was itself refused something, which
+  -- is told, and it has no outcome
   pub record StaysOpen (last : Known) (session : Seated) (stop : Option (Failure E)) (between new : W) : Type 0 where
     pub begun : Seated
     pub began : BeganAt bounds last begun.state.start begun.seat
@@ -38,6 +41,13 @@ module _ {W O E : Type 0} (does : W → Entries → Result O (Failure E) → Ent
     pub value : Option O
     pub works : Works does bounds terms begun session value stop between new
     pub none : finish_of session.state ≡ None
+    pub stopped : IsOpenStop stop
+
+-- It was not tried once more: so many tries as may be made again had come to nothing, what stopped
+-- the last may not pass, or the work is not to be tried again.
+abbrev pub IsLastTry : {J W O E : Type 0} → (W → ℕ → Stop → Type 0) → ℕ → ℕ → Ended J O E → W → Type 0
+IsLastTry stops_at again tries e new = (tries ≡ again) ⊎ (may_go_further e.outcome e.stop ≡ false)
+    ⊎ EndsAt stops_at new (tries + 1) e.stop
 
 module _ {J W O E : Type 0} (does : W → Entries → Result O (Failure E) → Entries → W → Type 0)
     (bounds : List Key) (terms : Terms) where

@@ -1,5 +1,5 @@
 -- Why a work went no further.
-use Rattle.std.specs.Prelude.{◌≡◌, Bool, false, Option, Some, None, Result, Ok, Err}
+use Rattle.std.specs.Prelude.{◌≡◌, ℕ, Bool, false, Option, Some, None, Result, Ok, Err}
 use Rattle.tx_core.specs.declared.event.Outcome.{Outcome}
 use Rattle.tx_core.specs.declared.event.Outcome.TheVariants as outcome
 use Rattle.tx_simple.specs.declared.stops.Stop.{Stop}
@@ -18,6 +18,17 @@ abbrev pub may_go_further : {E : Type 0} → Outcome → Option (Failure E) → 
 may_go_further outcome.Aborted (Some failure) = may_pass failure
 may_go_further outcome.ReadOnly (Some failure) = may_pass failure
 may_go_further _ _ = false
+
+-- a session that has no outcome was itself refused something, which is told
+abbrev pub IsOpenStop : {E : Type 0} → Option (Failure E) → Type 0
+IsOpenStop (Some (Stopped stop)) = stops.IsOwnRefusal stop
+IsOpenStop _ = ⊥
+
+-- a work is not to be tried once more, after so many tries that came to nothing, of which this
+-- stopped the last
+abbrev pub EndsAt : {W E : Type 0} → (W → ℕ → Stop → Type 0) → W → ℕ → Option (Failure E) → Type 0
+EndsAt stops_at work tries (Some (Stopped stop)) = stops_at work tries stop
+EndsAt stops_at work tries _ = Unit {0}
 
 -- what stopped the transaction after the work had answered
 abbrev pub failure_in : {E : Type 0} → Result (Unit {0}) Stop → Option (Failure E)

@@ -1,5 +1,5 @@
 -- The rows of a range of keys.
-use Rattle.std.specs.Prelude.{◌≡◌, ◌⊎◌, ◌<◌, ◌&&◌, Bool, false, cond, List, [], ◌∷◌, ◌++◌, length, replicate, Option, Some, None, bytes_eq, IsTrue}
+use Rattle.std.specs.Prelude.{◌≡◌, ◌⊎◌, ◌<◌, ◌+◌, ◌&&◌, ℕ, nat_lt, Bool, false, cond, List, [], ◌∷◌, ◌++◌, length, replicate, Option, Some, None, bytes_eq, IsTrue}
 use Rattle.tx_types.specs.declared.key.Key.{Key}
 use Rattle.tx_types.specs.declared.value.Value.{Value}
 use Rattle.tx_types.specs.declared.mutation.Change.{Change}
@@ -7,6 +7,7 @@ use Rattle.tx_types.specs.declared.mutation.KeyValue.{KeyValue}
 use Rattle.tx_types.specs.declared.mutation.Mutation.{Mutation}
 use Rattle.tx_types.specs.declared.mutation.Mutation.TheVariants as mutation
 use Rattle.tx_types.specs.Keys.{key_lt, key_le, IsRising, value_in}
+use Rattle.tx_simple.specs.declared.rows.KeyRange.{KeyRange}
 
 -- the least key is a byte of 0, and the greatest 512 bytes of 255
 abbrev pub least : Key
@@ -38,11 +39,31 @@ abbrev pub row_of : Key → Option Value → List KeyValue
 row_of k None = []
 row_of k (Some v) = row_with k v ∷ []
 
--- The rows of a page before the next page begins: all where the page is not full, and the next then
--- begins at the end of the range; else all but the last, at which it begins.
-abbrev pub IsSplit : List KeyValue → Key → List KeyValue → Key → Type 0
-IsSplit page end front next = (length page < 1024) × (front ≡ page) × (next ≡ end)
+-- The rows of a page, of so many rows where it is full, before the next page begins: all where it
+-- is not full, and the next then begins at the end of the range; else all but the last, at which it
+-- begins.
+abbrev pub IsSplit : ℕ → List KeyValue → Key → List KeyValue → Key → Type 0
+IsSplit limit page end front next = (length page < limit) × (front ≡ page) × (next ≡ end)
     ⊎ ((v : Value) × (page ≡ front ++ row_with next v ∷ []))
+
+-- The least key above all that begin with these bytes: the last of them that is below 255 is one
+-- more, and those behind it are left out. There is none where all are 255.
+abbrev pub after_prefix : List ℕ → Option Key
+after_prefix [] = None
+after_prefix (b ∷ bs) = elim (after_prefix bs) [
+  | Some more ↦ Some (b ∷ more)
+  | None ↦ cond (nat_lt b 255) (Some ((b + 1) ∷ [])) None
+]
+
+-- up to where a page goes: to where the rest of its range begins, or to the end of the range
+abbrev pub end_of_page : KeyRange → Option KeyRange → Option Key
+end_of_page range None = range.to
+end_of_page range (Some rest) = Some rest.from
+
+-- the rest of a range begins above where the range does, and goes as far
+abbrev pub IsRestOf : KeyRange → Option KeyRange → Type 0
+IsRestOf range None = Unit {0}
+IsRestOf range (Some rest) = IsTrue (key_lt range.from rest.from) × (rest.to ≡ range.to)
 
 -- rows that rise, with this value at a key, or none
 abbrev pub with_value : List KeyValue → Key → Option Value → List KeyValue

@@ -1,5 +1,5 @@
 -- How a transaction is run over a seat, and how it ends.
-use Rattle.std.specs.Prelude.{◌≡◌, ◌≢◌, ◌⊎◌, ◌<◌, ℕ, zero, suc, List, [], ◌∷◌, true, false, Option, Some, None, Result}
+use Rattle.std.specs.Prelude.{◌≡◌, ◌≢◌, ◌⊎◌, ◌<◌, ℕ, zero, suc, List, [], ◌∷◌, true, false, Option, Some, None, Result, Ok, Err}
 use Rattle.tx_transaction.specs.declared.state.Terms.{Terms}
 use Rattle.tx_transaction.specs.Buffers.{Entries}
 use Rattle.tx_simple.specs.declared.failure.Failure.{Failure}
@@ -65,6 +65,10 @@ CommitsAboveKnown known outcome.Aborted = Unit {0}
 CommitsAboveKnown known (outcome.Unknown why) = Unit {0}
 CommitsAboveKnown known outcome.ReadOnly = Unit {0}
 
+-- `finish` answers an outcome of it
+abbrev pub HasOutcome : Seated → Type 0
+HasOutcome s = finish_of s.state ≢ None
+
 -- nothing was declared of it, or it is decided that it is aborted
 abbrev pub CameToNothing : History → ℕ → Type 0
 CameToNothing h t = (declared h t ≡ None) ⊎ IsDecidedSo h t outcome.Aborted
@@ -83,23 +87,27 @@ pub record EndedWith (bounds : List Key) (old : Known) (t : ℕ) (end : Outcome)
   pub in_order : CommitsAbove session.seat.events session.state.placed end
   pub above : CommitsAboveKnown old.events end
 
--- what was entered is what was declared under these terms, and the seat went on from there
+-- What was entered was declared under these terms, and the seat went on from there: that is what
+-- stands declared of the transaction, and nothing does where nothing was entered.
 pub record Wrote (bounds : List Key) (terms : Terms) (start : ℕ) (entered : Entries) (old new : Known) : Type 0 where
   pub placed : ℕ
   pub after : Known
   pub declares : RecordsDeclared bounds old (declaration start placed entered terms) after
   pub goes : SeatGoesOn after new
+  pub stands : declared new.events start ≡ declaration start placed entered terms
 
--- where nothing stopped it
-abbrev pub OnNoStop : {E : Type 0} → Option (Failure E) → Type 0 → Type 0
-OnNoStop None P = P
-OnNoStop (Some failure) P = Unit {0}
+-- What a try writes, by what its work answered and what stopped it: what the work left entered;
+-- where something stopped that, it or nothing; and nothing where the work refused.
+abbrev pub Writes : {O E : Type 0} → Result O (Failure E) → Option (Failure E) → Type 0 → Type 0 → Type 0
+Writes (Ok answer) None wrote nothing = wrote
+Writes (Ok answer) (Some failure) wrote nothing = wrote ⊎ nothing
+Writes (Err failure) stop wrote nothing = nothing
 
 module _ {W O E : Type 0} (does : W → Entries → Result O (Failure E) → Entries → W → Type 0)
     (bounds : List Key) (terms : Terms) where
   -- The work was called, once, in a transaction in which nothing was entered; its value is what it
-  -- answered; where nothing stopped that, the work answered well, and what it left entered is what
-  -- was declared.
+  -- answered. What it left entered, or nothing at all, stands declared of the transaction: that it
+  -- left where nothing stopped it, and nothing where it refused.
   pub record Works (begun session : Seated) (value : Option O) (stop : Option (Failure E)) (old new : W) : Type 0 where
     pub answered : Result O (Failure E)
     pub entered : Entries
@@ -107,7 +115,8 @@ module _ {W O E : Type 0} (does : W → Entries → Result O (Failure E) → Ent
     pub tells : TellsOfWork answered value stop
     pub before : Known
     pub goes : SeatGoesOn begun.seat before
-    pub wrote : OnNoStop stop (Wrote bounds terms begun.state.start entered before session.seat)
+    pub wrote : Writes answered stop (Wrote bounds terms begun.state.start entered before session.seat)
+        (declared session.seat.events begun.state.start ≡ None)
 
   -- A try that is over and came to nothing: the seat began a transaction, went on within it alone,
   -- and answered of it, of which nothing was declared, or it is decided that it is aborted; and

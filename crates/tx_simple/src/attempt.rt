@@ -1,9 +1,12 @@
 //! A work in one transaction: one try of an update.
-ghost use Rattle.std.specs.Prelude.{◌≡◌, false, [], OnOk, IfOk, IfErr};
+ghost use Rattle.std.specs.Prelude.{◌≡◌, ◌⊎◌, false, None, [], OnOk, IfOk, IfErr};
+ghost use Rattle.tx_core.specs.Histories.{declared};
 ghost use Rattle.tx_transaction.specs.Sessions.{is_declared, has_primary};
 ghost use Rattle.tx_journal.specs.Senders.{IsSender};
 ghost use Rattle.tx_simple.specs.Reads.{HasSeenStart};
-ghost use Rattle.tx_simple.specs.Updates.{SeatGoesOn, Follows, MayHaveDeclared, Wrote, Works};
+ghost use Rattle.tx_simple.specs.Stops.{IsOwnRefusal};
+ghost use Rattle.tx_simple.specs.Failures.{IsOpenStop};
+ghost use Rattle.tx_simple.specs.Updates.{HasOutcome, SeatGoesOn, Follows, MayHaveDeclared, Wrote, Works};
 ghost use Rattle.tx_simple.specs.Endings.{EndsOver, IsUnended};
 
 use crate::ended::{Ended, Seats, Unended, finished};
@@ -81,6 +84,8 @@ fn carried<J: JournalId, S: Sender<Request<J>, Reply<J>>, B: Begun>(
     requires resolver { resolver ≡ B.resolver }
     ensures session { Follows B.session result.0 }
     ensures resolver { SeatGoesOn B.resolver result.1 }
+    ensures ended { OnOk result.2 (HasOutcome result.0) }
+    ensures stopped { IfErr result.2 (λ stop. IsOwnRefusal stop ⊎ HasOutcome result.0) }
 {
     let mut running = Running::<'_, J, S, B>::new(alloc, session, resolver, sender);
     let done = running.carry_or_take_back();
@@ -98,6 +103,8 @@ fn carry<J: JournalId, S: Sender<Request<J>, Reply<J>>>(
     requires way { IsSender J.bounds S.fits S.sends S.keys_between }
     ensures session { Follows session result.0 }
     ensures resolver { SeatGoesOn resolver result.1 }
+    ensures ended { OnOk result.2 (HasOutcome result.0) }
+    ensures stopped { IfErr result.2 (λ stop. IsOwnRefusal stop ⊎ HasOutcome result.0) }
 {
     carried::<J, S, Brand>(alloc, session, resolver, sender)
 }
@@ -116,14 +123,25 @@ fn write<J: JournalId, S: Sender<Request<J>, Reply<J>>>(
     ensures resolver { SeatGoesOn resolver result.1 }
     ensures wrote { OnOk result.2
         (Wrote J.bounds terms.now session.state.start session.state.buffer session.seat result.0.seat) }
+    ensures at_most { Wrote J.bounds terms.now session.state.start session.state.buffer session.seat result.0.seat
+        ⊎ (declared result.0.seat.events session.state.start ≡ None) }
+    ensures ended { OnOk result.2 (HasOutcome result.0) }
+    ensures stopped { IfErr result.2 (λ stop. IsOwnRefusal stop ⊎ HasOutcome result.0) }
 {
     if let Err(fault) = session.declare(*terms) {
+        // For proofs: what its seat has seen declared.
+        session.show();
         return (session, resolver, Err(Stop::from(fault)));
     }
+    // For proofs: what its seat has seen declared.
+    session.show();
     if !session.has_primary() {
         return (session, resolver, Ok(()));
     }
-    carry(alloc, session, resolver, sender)
+    let (session, resolver, done) = carry(alloc, session, resolver, sender);
+    // For proofs: what its seat has seen is a world run.
+    session.show();
+    (session, resolver, done)
 }
 
 // Does a work in a session that has just begun, as far as it goes.
@@ -142,10 +160,15 @@ fn run<J: JournalId, S: Sender<Request<J>, Reply<J>>, W: Work>(
     ensures session { MayHaveDeclared session result.0 }
     ensures resolver { SeatGoesOn resolver result.1 }
     ensures works { Works W.does J.bounds terms.now session result.0 result.2 result.3 work.old work.new }
+    ensures ended { IsOpenStop result.3 ⊎ HasOutcome result.0 }
 {
     let (session, resolver, answered) = apply(alloc, session, resolver, work, sender);
     match answered {
-        Err(failure) => (session, resolver, None, Some(failure)),
+        Err(failure) => {
+            // For proofs: what its seat has seen declared.
+            session.show();
+            (session, resolver, None, Some(failure))
+        }
         Ok(value) => {
             let (session, resolver, done) = write(alloc, session, resolver, terms, sender);
             (session, resolver, Some(value), failed_by(done))
@@ -153,17 +176,19 @@ fn run<J: JournalId, S: Sender<Request<J>, Reply<J>>, W: Work>(
     }
 }
 
-/// Does a work in one transaction.
+/// Does a work in one transaction, after so many tries that came to nothing.
 pub(crate) fn try_once<J: JournalId, S: Sender<Request<J>, Reply<J>>, W: Work>(
     alloc: Global,
     seats: Seats<J>,
     terms: &Terms,
     work: &mut W,
+    retries: u32,
     sender: &mut S,
 ) -> Result<Ended<J, W::Out, W::Err>, Unended<J, W::Err>>
     requires way { IsSender J.bounds S.fits S.sends S.keys_between }
     ensures ended { IfOk result (λ e. EndsOver W.does J.bounds terms.now seats work.old 0 e work.new) }
     ensures unended { IfErr result (λ u. IsUnended W.does J.bounds terms.now seats work.old 0 u work.new) }
+    ensures retries { IfOk result (λ e. e.retries ≡ retries) }
 {
     let Seats { begins, resolves } = seats;
     match Session::begin(alloc, begins) {
@@ -171,7 +196,7 @@ pub(crate) fn try_once<J: JournalId, S: Sender<Request<J>, Reply<J>>, W: Work>(
             let (session, resolves, value, stop) = run(
                 alloc, session, resolves, terms, work, sender,
             );
-            finished(session, resolves, value, stop)
+            finished(session, resolves, value, stop, retries)
         }
         Err(begins) => Err(Unended::Spent(Seats { begins, resolves })),
     }

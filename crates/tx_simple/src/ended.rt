@@ -30,6 +30,8 @@ pub struct Ended<J: JournalId, O, E> {
     pub value: Option<O>,
     /// Why it went no further; none where it did all that it was to do.
     pub stop: Option<Failure<E>>,
+    /// How many tries before it came to nothing.
+    pub retries: u32,
     pub seats: Seats<J>,
 }
 
@@ -38,8 +40,9 @@ pub struct Ended<J: JournalId, O, E> {
 pub enum Unended<J: JournalId, E> {
     /// The ticks of the seat that begins are spent: no transaction began.
     Spent(Seats<J>),
-    /// Nothing is decided, and no answer is missing: memory was refused to the session itself. The
-    /// session goes on, and may be asked again, aborted or stopped.
+    /// Nothing is decided, and no answer is missing: something, as memory, was refused to the
+    /// session itself, which `stop` tells. The session goes on, and may be asked again, aborted or
+    /// stopped.
     Open {
         session: Session<J>,
         resolves: Seat<J>,
@@ -68,6 +71,7 @@ impl<J: JournalId, O: Drop, E: Drop> Ended<J, O, E> {
             outcome: _,
             value: _,
             stop: _,
+            retries: _,
             seats,
         } = self;
         seats
@@ -81,9 +85,11 @@ pub(crate) fn finished<J: JournalId, O: Drop, E: Drop>(
     resolves: Seat<J>,
     value: Option<O>,
     stop: Option<Failure<E>>,
+    retries: u32,
 ) -> Result<Ended<J, O, E>, Unended<J, E>>
     ensures ended { (begun : Seated) → MayHaveDeclared begun session
         → IfOk result (λ e. EndsFrom J.bounds begun.seat session resolves value stop e) }
+    ensures retries { IfOk result (λ e. e.retries ≡ retries) }
     ensures open_yet { IfErr result (λ u. IsOpen session resolves stop u) }
 {
     // For proofs: what its seat has seen declared.
@@ -95,6 +101,7 @@ pub(crate) fn finished<J: JournalId, O: Drop, E: Drop>(
             outcome,
             value,
             stop,
+            retries,
             seats: Seats { begins, resolves },
         }),
         Err(session) => Err(Unended::Open {

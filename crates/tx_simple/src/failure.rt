@@ -3,14 +3,18 @@ ghost use Rattle.std.specs.Prelude.{◌≡◌};
 ghost use Rattle.tx_simple.specs.Failures.{may_pass, failure_in};
 
 use crate::stops::Stop;
+use std::alloc::{AllocError, AllocFailed};
+use thiserror::Error;
 use tx_types::Fault;
 
 /// Why a work, or the transaction that it was done in, went no further.
-#[derive(Debug, Drop)]
+#[derive(Debug, Drop, Error)]
 pub enum Failure<E> {
     /// The work refused, for a reason of its own.
+    #[error("the work refused")]
     Own(E),
     /// The transaction was stopped.
+    #[error("{0}")]
     Stopped(Stop),
 }
 
@@ -39,13 +43,39 @@ impl<E> From<Stop> for Failure<E> {
 
 impl<E> From<Fault> for Failure<E> {
     ghost use Rattle.std.specs.Prelude.{◌≡◌};
+    ghost use Rattle.tx_simple.specs.declared.stops.Stop.TheVariants.{Refused};
     ghost use Rattle.tx_simple.specs.declared.failure.Failure.TheVariants.{Stopped};
-    ghost use Rattle.tx_simple.specs.Stops.{stop_of_fault};
 
-    ghost from_gives = { λ fault failure. failure ≡ Stopped (stop_of_fault fault) };
+    ghost from_gives = { λ fault failure. failure ≡ Stopped (Refused fault) };
 
     fn from(fault: Fault) -> Failure<E> {
         Failure::Stopped(Stop::from(fault))
+    }
+}
+
+impl<T: Drop, E> From<AllocFailed<T>> for Failure<E> {
+    ghost use Rattle.std.specs.Prelude.{◌≡◌};
+    ghost use Rattle.tx_types.specs.declared.fault.Fault.TheVariants.{OutOfMemory};
+    ghost use Rattle.tx_simple.specs.declared.stops.Stop.TheVariants.{Refused};
+    ghost use Rattle.tx_simple.specs.declared.failure.Failure.TheVariants.{Stopped};
+
+    ghost from_gives = { λ _ failure. failure ≡ Stopped (Refused OutOfMemory) };
+
+    fn from(_: AllocFailed<T>) -> Failure<E> {
+        Failure::Stopped(Stop::Refused(Fault::OutOfMemory))
+    }
+}
+
+impl<E> From<AllocError> for Failure<E> {
+    ghost use Rattle.std.specs.Prelude.{◌≡◌};
+    ghost use Rattle.tx_types.specs.declared.fault.Fault.TheVariants.{OutOfMemory};
+    ghost use Rattle.tx_simple.specs.declared.stops.Stop.TheVariants.{Refused};
+    ghost use Rattle.tx_simple.specs.declared.failure.Failure.TheVariants.{Stopped};
+
+    ghost from_gives = { λ _ failure. failure ≡ Stopped (Refused OutOfMemory) };
+
+    fn from(_: AllocError) -> Failure<E> {
+        Failure::Stopped(Stop::Refused(Fault::OutOfMemory))
     }
 }
 

@@ -1,13 +1,13 @@
 //! The rows of a range at the start of a transaction that is lent, page by page.
-ghost use Rattle.std.specs.Prelude.{◌≡◌, OnOk, OnErr, IfOk, IfErr, Some, None, ◌++◌};
-ghost use Rattle.tx_types.specs.Keys.{is_between};
+ghost use Rattle.std.specs.Prelude.{◌≡◌, ◌<◌, IsTrue, OnOk, OnErr, IfOk, IfErr, Some, None, ◌++◌};
+ghost use Rattle.tx_types.specs.Keys.{is_between, key_lt};
 ghost use Rattle.tx_core.specs.Histories.{Begins};
 ghost use Rattle.tx_laws.specs.Rows.{AreRowsOf};
 ghost use Rattle.tx_simple.specs.Ranges.{IsSplit, is_in_range, row_of};
-ghost use Rattle.tx_simple.specs.Reads.{Beneath, SeesOn};
+ghost use Rattle.tx_simple.specs.Reads.{Beneath, FindsRange, SeesOn};
 ghost use Rattle.tx_simple.specs.Stops.{IsReadStop};
 
-use crate::rows::{KeyRange, greatest};
+use crate::rows::{KeyRange, enter_over, greatest};
 use crate::session::Begun;
 use crate::stops::Stop;
 use crate::tx::Lent;
@@ -15,13 +15,15 @@ use tx_journal::{JournalId, Reply, Request, Sender};
 use tx_types::limits::MAX_SCAN_ROWS;
 use tx_types::{Fault, Key, KeyValue, KeyValues, Value};
 
-/// The rows of a page of a range that goes up to `end`, and where the next page begins: at the end,
-/// where this one is not full; else at its last row, which is left for the next.
-pub fn split_page(page: KeyValues, end: Key) -> (Vec<KeyValue>, Key)
-    ensures { IsSplit page end result.0.items result.1 }
+/// The rows of a page, of `limit` rows where it is full, of a range that goes up to `end`, and
+/// where the next page begins: at the end, where this one is not full; else at its last row, which
+/// is left for the next.
+pub fn split_page(page: KeyValues, limit: u32, end: Key) -> (Vec<KeyValue>, Key)
+    requires some { 0 < limit }
+    ensures { IsSplit limit page end result.0.items result.1 }
 {
     let mut rows = page.into_vec();
-    if rows.len() < MAX_SCAN_ROWS as usize {
+    if rows.len() < limit as usize {
         return (rows, end);
     }
     let Some(last) = rows.pop() else {
@@ -67,8 +69,8 @@ impl<'a, J: JournalId, S: Sender<Request<J>, Reply<J>>, B: Begun> Lent<'a, J, S,
             if next >= *to {
                 return Ok(rows);
             }
-            let page = self.page(&next, to, MAX_SCAN_ROWS)?;
-            let (more, upto) = split_page(page, to.clone()?);
+            let page = self.look_for(&next, to, MAX_SCAN_ROWS)?;
+            let (more, upto) = split_page(page, MAX_SCAN_ROWS, to.clone()?);
             add_rows(&mut rows, more)?;
             next = upto;
         }
@@ -105,6 +107,46 @@ impl<'a, J: JournalId, S: Sender<Request<J>, Reply<J>>, B: Begun> Lent<'a, J, S,
         let found = self.find(&top)?;
         self.running.know_run();
         add_last(&mut rows, top, found)?;
+        Ok(rows)
+    }
+
+    /// The first rows from a key up to but not including another above it at the start, fewer than
+    /// so many of them, over which what was entered is still to be entered, and up to where they
+    /// go.
+    pub(crate) fn first_rows(
+        &mut self,
+        from: &Key,
+        to: &Key,
+        limit: u32,
+    ) -> Result<(Vec<KeyValue>, Key), Stop>
+        requires below { IsTrue (key_lt from.now to.now) }
+        requires some { 0 < limit }
+        ensures same { self.new.running.state.buffer ≡ self.old.running.state.buffer }
+        ensures more { Begins self.old.running.seat.events self.new.running.seat.events }
+        ensures finds { IfOk result (λ r. AreRowsOf (is_in_range (Some from.now) (Some r.1))
+            (Beneath self.old.running.state.buffer self.new.running.seat.events B.session.state.start) r.0.items) }
+        ensures err { IfErr result IsReadStop }
+    {
+        let page = self.look_for(from, to, limit)?;
+        let end = to.clone()?;
+        self.running.know_run();
+        Ok(split_page(page, limit, end))
+    }
+
+    /// The rows of a range with what was entered over them.
+    pub(crate) fn with_entered(
+        &self,
+        mut rows: Vec<KeyValue>,
+        range: &KeyRange,
+    ) -> Result<Vec<KeyValue>, Stop>
+        requires beneath { AreRowsOf (is_in_range (Some range.now.from) range.now.to)
+            (Beneath self.now.running.state.buffer self.now.running.seat.events B.session.state.start) rows.items }
+        ensures finds { IfOk result (λ all. FindsRange self.now.running.state.buffer self.now.running.seat.events
+            B.session.state.start (Some range.now.from) range.now.to all.items) }
+        ensures err { IfErr result IsReadStop }
+    {
+        let changes = self.running.entered()?;
+        enter_over(&mut rows, changes.as_slice(), range)?;
         Ok(rows)
     }
 

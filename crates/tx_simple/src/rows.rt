@@ -1,5 +1,5 @@
 //! Rows in the order of their keys, and what is entered over them.
-ghost use Rattle.std.specs.Prelude.{◌≡◌, ◌≤◌, length, Some, OnOk, IfOk, IfErr, bytes_eq, IsTrue};
+ghost use Rattle.std.specs.Prelude.{◌≡◌, ◌⊎◌, ◌≤◌, length, Some, option_map, OnOk, IfOk, IfErr, bytes_eq, IsTrue};
 ghost use Rattle.std.specs.List.{prefix_len, list_any};
 ghost use Rattle.tx_types.specs.declared.key.Key.{Key as Name};
 ghost use Rattle.tx_types.specs.declared.value.Value.{Value as Given};
@@ -7,7 +7,7 @@ ghost use Rattle.tx_types.specs.declared.mutation.KeyValue.{KeyValue as Row};
 ghost use Rattle.tx_types.specs.declared.mutation.Change.{Change as Entry};
 ghost use Rattle.tx_types.specs.Fronts.{AreBytes};
 ghost use Rattle.tx_types.specs.Keys.{key_lt, IsRising, value_in};
-ghost use Rattle.tx_simple.specs.Ranges.{greatest, begin_of, is_in_range, is_first_of, with_value, value_of, AreEntered};
+ghost use Rattle.tx_simple.specs.Ranges.{after_prefix, greatest, begin_of, is_in_range, is_first_of, with_value, value_of, AreEntered};
 
 use std::alloc::Global;
 use tx_types::limits::MAX_KEY_BYTES;
@@ -71,6 +71,34 @@ pub struct KeyRange {
     pub to: Option<Key>,
 }
 
+/// Rows of a range, from its front on, and what is left of the range behind them; none where they
+/// are all.
+#[derive(Drop)]
+pub struct Page {
+    pub rows: Vec<KeyValue>,
+    pub rest: Option<KeyRange>,
+}
+
+// The least bytes above all that begin with these; none where all of them are 255.
+fn after_prefix(alloc: Global, bytes: &[u8]) -> Result<Option<Vec<u8>>, Fault>
+    ensures ok { IfOk result (λ after. option_map (λ v. v.items) after ≡ after_prefix bytes.now) }
+    ensures err { IfErr result (λ e. e ≡ Fault.OutOfMemory) }
+{
+    let [first, rest @ ..] = bytes else {
+        return Ok(None);
+    };
+    if let Some(mut more) = after_prefix(alloc, rest)? {
+        more.insert(0, *first)?;
+        return Ok(Some(more));
+    }
+    if *first == u8::MAX {
+        return Ok(None);
+    }
+    let mut more = Vec::new(alloc);
+    more.push(*first + 1)?;
+    Ok(Some(more))
+}
+
 /// The greatest key.
 pub fn greatest(alloc: Global) -> Result<Key, Fault>
     ensures ok { IfOk result (λ key. key ≡ greatest) }
@@ -96,6 +124,24 @@ impl KeyRange {
         let from = match from {
             Some(from) => from,
             None => Key::new(alloc, &[0])?,
+        };
+        Ok(KeyRange { from, to })
+    }
+
+    /// The keys that begin with these bytes: from them on, up to the least key above all such keys,
+    /// or to the greatest. `KeyLength` for no or more than 512 bytes.
+    ///
+    /// ```
+    /// let mut rest = Some(KeyRange::prefix(tx.alloc(), b"item/")?);
+    /// ```
+    pub fn prefix(alloc: Global, bytes: &[u8]) -> Result<KeyRange, Fault>
+        ensures ok { IfOk result (λ range. (range.from ≡ bytes.now) × (range.to ≡ after_prefix bytes.now)) }
+        ensures err { IfErr result (λ e. (e ≡ Fault.KeyLength) ⊎ (e ≡ Fault.OutOfMemory)) }
+    {
+        let from = Key::new(alloc, bytes)?;
+        let to = match after_prefix(alloc, bytes)? {
+            Some(after) => Some(Key::new(alloc, after.as_slice())?),
+            None => None,
         };
         Ok(KeyRange { from, to })
     }

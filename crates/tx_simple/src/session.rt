@@ -1,5 +1,6 @@
 //! A session under way, with what it sends by and the seat that resolves locks in its way.
-ghost use Rattle.std.specs.Prelude.{◌≡◌, ◌⊎◌, true, false, Some, None, OnOk, OnErr, IfOk, IfErr};
+ghost use Rattle.std.specs.Prelude.{◌≡◌, ◌⊎◌, true, false, is_some, Some, None, Ok, OnOk, OnErr, IfOk, IfErr};
+ghost use Rattle.tx_types.specs.declared.value.Value.{Value as Given};
 ghost use Rattle.tx_types.specs.declared.fault.Fault.TheVariants as fault;
 ghost use Rattle.tx_types.specs.declared.mutation.Mutation.TheVariants as mutation;
 ghost use Rattle.tx_transaction.specs.Buffers.{touched, put_over, inserted, locked, buffered, is_full};
@@ -10,7 +11,7 @@ ghost use Rattle.tx_transaction.specs.Buffers.{changes_of};
 ghost use Rattle.tx_journal.specs.Senders.{IsSender};
 ghost use Rattle.tx_simple.specs.declared.stops.Stop.TheVariants as stop;
 ghost use Rattle.tx_simple.specs.Reads.{AnswersRead, AnswersScan, TellsPage, IsGetAnswer, IsScanAnswer, HasSeenStart};
-ghost use Rattle.tx_simple.specs.Updates.{Follows, SeatGoesOn};
+ghost use Rattle.tx_simple.specs.Updates.{HasOutcome, Follows, SeatGoesOn};
 
 use crate::met_lock::clear_met;
 use crate::stops::Stop;
@@ -216,6 +217,7 @@ impl<'a, J: JournalId, S: Sender<Request<J>, Reply<J>>, B: Begun> Running<'a, J,
     /// Sends the commit that is due.
     pub(crate) fn commit(&mut self) -> Result<Option<Answer>, Miss>
         requires { can_commit self.old.state ≡ true }
+        ensures { result ≡ Ok None → HasOutcome self.new }
     {
         self.session.commit_next(self.sender)
     }
@@ -229,6 +231,13 @@ impl<'a, J: JournalId, S: Sender<Request<J>, Reply<J>>, B: Begun> Running<'a, J,
 }
 
 impl<'a, J: JournalId, S: Sender<Request<J>, Reply<J>>, B: Begun> Running<'a, J, S, B> {
+    /// Whether no value of a key is entered, so that it may be inserted.
+    pub(crate) fn can_insert(&self, key: &Key) -> bool
+        ensures { (value : Given) → result ≡ is_some (inserted self.now.state.buffer key.now value) }
+    {
+        self.session.transaction().can_insert(key.as_bytes())
+    }
+
     /// Enters a put.
     pub(crate) fn put(&mut self, key: Key, value: Value) -> Result<(), Fault>
         requires { is_declared B.session.state ≡ false }

@@ -20,7 +20,7 @@ use std::sync::{Mutex, MutexGuard, Wait};
 use tx_cells::Families;
 use tx_core::{Body, RegionNo, SeatNo, Target};
 use tx_journal::{Journal, JournalId, Opened, Reply, Request, Seat, Told};
-use tx_region::{Attempt, Region, fronts, is_of_key, route_by};
+use tx_region::{Attempt, FrontRanges, Region, fronts, is_of_key, route_by};
 use tx_types::{Fault, Key};
 
 /// How often a call looks whether the lock of a region is free before it sleeps. A thread that
@@ -56,6 +56,8 @@ pub struct Store<J: JournalId, F: Families> {
     /// The fronts of the keys between the regions, by which the region of a key is mostly found
     /// with no look at these keys.
     fronts: Vec<u64>,
+    /// Where the search among them begins.
+    ranges: FrontRanges,
     /// The regions in the order of their keys, each under its lock.
     regions: Vec<LockedRegion<J, F>>,
     ghost few: { length J.bounds < 1024 },
@@ -92,6 +94,7 @@ impl<J: JournalId, F: Families + Drop> Store<J, F> {
         ensures err { IfErr result (λ e. e ≡ OutOfMemory) }
     {
         let fronts = fronts(alloc, journal.bounds())?;
+        let ranges = FrontRanges::new(fronts.as_slice());
         let mut regions = Vec::with_capacity(alloc, seats.len())?;
         for seat in seats {
             let Some(empty) = families.pop() else {
@@ -106,6 +109,7 @@ impl<J: JournalId, F: Families + Drop> Store<J, F> {
         Ok(Store {
             journal: journal.clone()?,
             fronts,
+            ranges,
             regions,
         })
     }
@@ -151,7 +155,12 @@ impl<J: JournalId, F: Families + Drop> Store<J, F> {
     fn index(&self, key: &Key) -> usize
         ensures { (result ≡ route J.bounds key.now) × (result ≤ length J.bounds) }
     {
-        route_by(self.fronts.as_slice(), self.journal.bounds(), key)
+        route_by(
+            &self.ranges,
+            self.fronts.as_slice(),
+            self.journal.bounds(),
+            key,
+        )
     }
 
     // The index of the region that holds what a request speaks of.

@@ -3,48 +3,87 @@ use memchr::memchr;
 use std::alloc::{AllocError, Global};
 use std::io::Write;
 use tx_cells::Fresh;
-use tx_command::{REFUSALS, SIMULATE_HELP, Steps};
-use tx_played::{keys_of, lines_of};
+use tx_command::{SIMULATE_HELP, topic};
+use tx_explain::{PictureForm, PictureOptions, explain};
+use tx_film::{keys_of, lines_of};
+use tx_hints::escaped;
 use tx_script::{Broken, Plain, simulate, simulate_checked};
 use tx_steps::{Line, Op, Program, Step};
+use tx_streams::Steps;
 use tx_text::{Parts, finish, put_string, send};
 use tx_types::Key;
 
 const QUESTIONS: &str = "At a terminal:
-  :keys       What stands on each key: its lock, its write records, its long values
-  :sessions   The live sessions, each with its last line and the reply to it
-  :steps      The steps of the one-step machine so far
-  :script     The lines that went well, to be copied
-  help WORD   What a step's word or a refusal is, as in help commit, help E5
-  help        All steps
+  A put a x     A step, as pictures show it, or as JSON: [\"put\",\"A\",\"a\",\"x\"]
+  :help WORD    What a step's word or a refusal is, as in :help commit, :help E5
+  :help         All steps, and these words
+  :keys         What stands on each key: its lock, its records, its long values
+  :sessions     The live sessions, each with its last line and the reply to it
+  :steps        The steps of the one-step machine so far
+  :explain      The run so far, as txkv explain shows it
+  :script       The lines that went well
+  :write FILE   Writes these to a new file
+  :read FILE    Plays the lines of a file, up to a fault
+  :undo         Takes back the last line that went well
+  :quit         Leaves, as quit, exit and the end of the input do
+Lines are edited and found again in: rlwrap txkv simulate
 ";
 
-/// Whether a line asks something, and is no line of a script.
-pub(crate) fn is_question(line: &[u8]) -> bool {
-    line.starts_with(b":") || line == b"help".as_slice() || line.starts_with(b"help ")
+/// What a line is, that was typed.
+#[derive(Clone, Copy, Debug, PartialEq, Eq)]
+pub(crate) enum Asked<'a> {
+    /// A comment, or nothing.
+    Nothing,
+    /// A step, or what is to be one.
+    Step,
+    /// A question, answered by what was played.
+    Question,
+    Quit,
+    Undo,
+    /// The lines of this file are to be played.
+    Read(&'a str),
+    /// The lines that went well are to be written to this file.
+    Write(&'a str),
 }
 
-// Appends the lines of a text that have this in them.
-fn put_lines_with(out: &mut Vec<u8>, text: &str, what: &str) -> Result<(), Broken> {
-    'lines: for line in text.lines() {
-        if line.contains(what) {
-            out.extend_from_slice(line.as_bytes())?;
-            out.push(b'\n')?;
-        }
+// What a line is that begins with a word of its own.
+fn asked_by<'a>(word: &str, rest: &'a str) -> Asked<'a> {
+    match (word, rest) {
+        (":quit" | ":q" | ":exit" | "quit" | "exit", "") => Asked::Quit,
+        (":undo", "") => Asked::Undo,
+        (":read", name) if !name.is_empty() => Asked::Read(name),
+        (":write", name) if !name.is_empty() => Asked::Write(name),
+        ("help" | "?", _) => Asked::Question,
+        _ if word.starts_with(':') => Asked::Question,
+        _ => Asked::Step,
     }
-    Ok(())
+}
+
+/// What a line is.
+pub(crate) fn asked_of(line: &[u8]) -> Asked<'_> {
+    let Ok(text) = str::from_utf8(line) else {
+        return Asked::Step;
+    };
+    let text = text.trim();
+    if text.is_empty() || text.starts_with('#') {
+        return Asked::Nothing;
+    }
+    match text.split_once(' ') {
+        Some((word, rest)) => asked_by(word, rest.trim()),
+        None => asked_by(text, ""),
+    }
 }
 
 // What a step's word or a refusal is.
 fn help_on(alloc: Global, word: &str) -> Result<Vec<u8>, Broken> {
     let mut out = Vec::new(alloc);
-    let step = format!(in alloc; "[\"{word}\"")?;
-    put_lines_with(&mut out, SIMULATE_HELP, step.as_str())?;
-    let refusal = format!(in alloc; "  {word} ")?;
-    put_lines_with(&mut out, REFUSALS, refusal.as_str())?;
-    if out.is_empty() {
-        let none = format!(in alloc; "{word} is no step and no refusal\n")?;
-        out.extend_from_slice(none.as_bytes())?;
+    match topic(alloc, word)? {
+        Some(text) => out.extend_from_slice(text.as_bytes())?,
+        None => {
+            let word = escaped(alloc, word)?;
+            let none = format!(in alloc; "{word} is no step and no refusal\n")?;
+            out.extend_from_slice(none.as_bytes())?;
+        }
     }
     Ok(out)
 }
@@ -92,8 +131,9 @@ fn keys<F: Fresh>(alloc: Global, script: &[u8]) -> Result<Vec<u8>, Broken> {
 // The machine's steps so far.
 fn steps<F: Fresh>(alloc: Global, script: &[u8]) -> Result<Vec<u8>, Broken> {
     let mut out = Vec::new(alloc);
-    let mut steps = Steps::new(&mut out);
+    let mut steps = Steps::new(alloc, &mut out);
     simulate_checked::<F, _, _, _>(alloc, &Plain, &mut &*script, &mut steps, &mut None)?;
+    drop(steps);
     Ok(out)
 }
 
@@ -175,13 +215,24 @@ fn sessions<F: Fresh>(alloc: Global, script: &[u8]) -> Result<Vec<u8>, Broken> {
     Ok(out)
 }
 
-// What is known of a word that stands behind `help`, of all steps, or of all questions.
-fn help(alloc: Global, line: &str) -> Result<Vec<u8>, Broken> {
-    if let Some(word) = line.strip_prefix("help ") {
-        return help_on(alloc, word.trim());
+// The run so far.
+fn picture<F: Fresh>(alloc: Global, script: &[u8]) -> Result<Vec<u8>, Broken> {
+    let mut out = Vec::new(alloc);
+    let options = PictureOptions {
+        form: PictureForm::Text,
+        machine: false,
+    };
+    explain::<F, _, _, _>(alloc, &Plain, options, &mut &*script, &mut out, &mut None)?;
+    Ok(out)
+}
+
+// What is known of a word, or with none, of all steps; and the questions.
+fn help(alloc: Global, word: &str) -> Result<Vec<u8>, Broken> {
+    if !word.is_empty() && !word.starts_with(':') {
+        return help_on(alloc, word);
     }
     let mut out = Vec::new(alloc);
-    if line == "help" {
+    if word.is_empty() {
         out.extend_from_slice(SIMULATE_HELP.as_bytes())?;
         out.extend_from_slice(b"\n\n")?;
     }
@@ -196,12 +247,15 @@ pub(crate) fn answer_question<F: Fresh, O: Write>(
     script: &[u8],
     writer: &mut O,
 ) -> Result<(), Broken> {
-    let line = str::from_utf8(line).unwrap_or_default();
-    let text = match line.trim() {
+    let line = str::from_utf8(line).unwrap_or_default().trim();
+    let (word, rest) = line.split_once(' ').unwrap_or((line, ""));
+    let text = match word {
         ":keys" => keys::<F>(alloc, script)?,
         ":sessions" => sessions::<F>(alloc, script)?,
         ":steps" => steps::<F>(alloc, script)?,
         ":script" => script.to_vec(alloc)?,
+        ":explain" => picture::<F>(alloc, script)?,
+        "help" | ":help" | "?" => help(alloc, rest.trim())?,
         other => help(alloc, other)?,
     };
     send(writer, text.as_slice())?;

@@ -4,3 +4,5 @@ pub mod Pending
 pub mod Logs
 -- What a trace keeps, as callers see it.
 pub mod Traces
+-- The requests that regions took, with their answers.
+pub mod Takings

@@ -4,6 +4,8 @@
 
 mod log;
 mod pending;
+mod taken;
 mod trace;
 
+pub use taken::Taking;
 pub use trace::Trace;

@@ -1,10 +1,11 @@
 //! The machine's steps of the events so far.
-ghost use Rattle.std.specs.Prelude.{◌≡◌, ℕ, [], reverse, OnOk, OnErr, IfErr};
+ghost use Rattle.std.specs.Prelude.{◌≡◌, ℕ, [], reverse, OnOk, OnErr, IfErr, option_map};
 ghost use Rattle.tx_core.specs.declared.event.Event.TheVariants as event;
 ghost use Rattle.tx_core.specs.declared.event.Taken.{Taken};
 ghost use Rattle.tx_trace.specs.Traces.{Traces, Adds, Stays};
 
 use crate::log::TraceLog;
+use crate::taken::{TakenLog, Taking, note_took};
 use std::alloc::Global;
 use std::marker::Model;
 use tx_core::{Answer, Body, Declaration, Event, Outcome};
@@ -18,6 +19,8 @@ use tx_types::{Fault, Ts};
 #[derive(Drop)]
 pub struct Trace {
     log: TraceLog,
+    /// What regions took; None where that is not kept, or no more.
+    taken: Option<TakenLog>,
 }
 
 impl Model for Trace {
@@ -25,7 +28,7 @@ impl Model for Trace {
 
     ghost Value = { Noted };
 
-    ghost view = { λ t. noted t.log };
+    ghost view = { λ t. noted t.log t.taken };
 }
 
 impl Trace {
@@ -35,6 +38,17 @@ impl Trace {
     {
         Trace {
             log: TraceLog::new(alloc),
+            taken: None,
+        }
+    }
+
+    /// The trace of no event, which keeps what regions take as well.
+    pub fn with_takings(alloc: Global) -> Trace
+        ensures { Traces [] result }
+    {
+        Trace {
+            log: TraceLog::new(alloc),
+            taken: Some(TakenLog::new(alloc)),
         }
     }
 
@@ -46,6 +60,18 @@ impl Trace {
         self.log.steps()
     }
 
+    /// What regions took, oldest first, each request with its answer: by `Traces` all that they
+    /// took in the history that this is the trace of. None where it is not kept, or no more, since
+    /// memory for it was refused.
+    pub fn takings(&self) -> Option<&[Taking]>
+        ensures { option_map (λ ts. ts.now) result ≡ option_map (λ t. t.takings.items) self.now.taken }
+    {
+        match &self.taken {
+            Some(taken) => Some(taken.as_slice()),
+            None => None,
+        }
+    }
+
     /// Goes on with a request that a region took, and its answer.
     #[inline(never)]
     pub fn took(&mut self, body: &Body, answer: &Answer) -> Result<(), Fault>
@@ -54,7 +80,9 @@ impl Trace {
         ensures same { OnErr result (Stays self.old self.new) }
         ensures err { IfErr result (λ e. e ≡ Fault.OutOfMemory) }
     {
-        self.log.took(body, answer)
+        self.log.took(body, answer)?;
+        note_took(&mut self.taken, body, answer);
+        Ok(())
     }
 
     /// Goes on with a number that a seat drew.

@@ -39,16 +39,6 @@ pub(crate) fn find<'a>(buffer: &'a Buffer, key: &Key) -> Option<&'a Mutation>
     buffer.find(key)
 }
 
-/// What a put of a key enters: an insert that is there stays one, with the new value.
-pub(crate) fn put_over(buffer: &Buffer, key: &Key, value: Value) -> Mutation
-    ensures { result ≡ put_over (buffered buffer.now key.now) value }
-{
-    match find(buffer, key) {
-        Some(Mutation::Insert(_)) => Mutation::Insert(value),
-        _ => Mutation::Put(value),
-    }
-}
-
 /// What an insert of a key enters: an insert, and over a delete a put; nothing over a put or an
 /// insert.
 pub(crate) fn insert_over(buffer: &Buffer, key: &Key, value: Value) -> Option<Mutation>

@@ -1,9 +1,9 @@
 //! The entries of a write buffer: keys in the order in which they were first touched, the first few
 //! in a list, and what comes behind these in a table.
-ghost use Rattle.std.specs.Prelude.{◌≡◌, ◌<◌, ◌≤◌, ◌↔◌, ℕ, [], true, false, length, slice_get, IsSome, IsTrue, IfErr, IfSome, IfNone, OnOk, OnErr, option_map, bytes_eq};
+ghost use Rattle.std.specs.Prelude.{Some, ◌≡◌, ◌<◌, ◌≤◌, ◌↔◌, ℕ, [], true, false, length, slice_get, IsSome, IsTrue, IfErr, IfSome, IfNone, OnOk, OnErr, option_map, bytes_eq};
 ghost use Rattle.std.specs.Map.Iter.{deref_pair};
 ghost use Rattle.tx_machine.specs.Keys.{IsDistinct};
-ghost use Rattle.tx_transaction.specs.Buffers.{buffered, changes_of, key_at, progress_at, touched, wants, with_progress};
+ghost use Rattle.tx_transaction.specs.Buffers.{buffered, changes_of, key_at, progress_at, put_over, touched, wants, with_progress};
 ghost use Rattle.tx_transaction.specs.Sessions.{marked_by, sent_by};
 
 use crate::answers::mark;
@@ -13,7 +13,7 @@ use indexmap::IndexMap;
 use std::alloc::Global;
 use std::marker::Model;
 use tx_core::Answer;
-use tx_types::{Fault, Key, Mutation};
+use tx_types::{Fault, Key, Mutation, Value};
 
 /// So many keys are compared in less than one is hashed.
 const FEW: usize = 4;
@@ -41,6 +41,16 @@ fn seek_few(few: &[(Key, BufferEntry)], key: &[u8]) -> Option<usize>
         }
     }
     None
+}
+
+// What a put enters over what is done to its key: an insert stays one, with the new value.
+fn put_over_one(mutation: &Mutation, value: Value) -> Mutation
+    ensures { result ≡ put_over (Some mutation.now) value }
+{
+    match mutation {
+        Mutation::Insert(_) => Mutation::Insert(value),
+        Mutation::Put(_) | Mutation::Delete | Mutation::Lock => Mutation::Put(value),
+    }
 }
 
 /// What a session does to its keys, and how far each is. A session has few keys mostly, and these
@@ -138,6 +148,46 @@ impl KeyEntries {
             Some(entry) => Some(&entry.mutation),
             None => None,
         }
+    }
+
+    // As `put`, where the few are full.
+    #[inline(never)]
+    fn put_behind(&mut self, key: Key, value: Value) -> Result<(), Fault>
+        ensures ok { OnOk result (self.new ≡ touched self.old key (put_over (buffered self.old key) value)) }
+        ensures same { OnErr result (self.new ≡ self.old) }
+        ensures err { IfErr result (λ e. e ≡ Fault.OutOfMemory) }
+    {
+        let mutation = match self.find(&key) {
+            Some(mutation) => put_over_one(mutation, value),
+            None => Mutation::Put(value),
+        };
+        self.touch(key, mutation)
+    }
+
+    /// Puts a value on a key, of which nothing was sent then: one search. A key that is there keeps
+    /// its place, and an insert of it stays one.
+    pub(crate) fn put(&mut self, key: Key, value: Value) -> Result<(), Fault>
+        ensures ok { OnOk result (self.new ≡ touched self.old key (put_over (buffered self.old key) value)) }
+        ensures same { OnErr result (self.new ≡ self.old) }
+        ensures err { IfErr result (λ e. e ≡ Fault.OutOfMemory) }
+    {
+        let progress = Progress {
+            sent: false,
+            accepted: None,
+            committed: false,
+            rolled: false,
+        };
+        if let Some(i) = seek_few(self.few.as_slice(), key.as_bytes()) {
+            let mutation = put_over_one(&self.few[i].1.mutation, value);
+            self.few[i].1 = BufferEntry { mutation, progress };
+            return Ok(());
+        }
+        if self.few.len() < FEW {
+            let mutation = Mutation::Put(value);
+            self.few.push((key, BufferEntry { mutation, progress }))?;
+            return Ok(());
+        }
+        self.put_behind(key, value)
     }
 
     /// Sets a key's mutation, of which nothing was sent then. A key that is there keeps its place.

@@ -11,8 +11,7 @@ mod requests;
 mod responses;
 
 use crate::buffer::{
-    Buffer, can_insert, changes_in, find, has_keys, has_room, insert_over, is_full, is_known,
-    put_over, touch,
+    Buffer, can_insert, changes_in, find, has_keys, has_room, insert_over, is_full, is_known, touch,
 };
 use crate::state::{Miss, Terms};
 use std::alloc::Global;
@@ -183,8 +182,10 @@ impl Transaction {
         ensures err { IfErr result (λ e. ((e ≡ Fault.OutOfMemory) × (is_full self.old.buffer key ≡ false))
             ⊎ ((e ≡ Fault.TooManyKeys) × (is_full self.old.buffer key ≡ true))) }
     {
-        let mutation = put_over(&self.buffer, &key, value);
-        self.touch(key, mutation)
+        if is_full(&self.buffer, &key) {
+            return Err(Fault::TooManyKeys);
+        }
+        self.buffer.put(key, value)
     }
 
     /// Enters an insert of a key into the buffer, and over a delete a put. A key with a value there

@@ -28,6 +28,7 @@ use Rattle.tx_client.specs.Calls.{Records}
 use Rattle.tx_client.specs.Facts.{standing}
 use Rattle.tx_client.specs.Learns.{response_of}
 use Rattle.tx_client.specs.Walks.{Sends, due_walk}
+use Rattle.tx_transfer.specs.SeedLines.{is_committed}
 use Rattle.tx_transfer.specs.Seeds.{KeepsPut, PutsJust, WasSeeded}
 
 -- ---- what is declared stays
@@ -113,6 +114,17 @@ was_seeded bounds key value s k new c just shows records =
       puts = puts;
       committed = inl (ap (λ (t : ℕ). Answered t (outcome.Committed c)) (sym there.1));
     })
+
+-- so did one whose outcome is a commit
+pub committed_seeds : (bounds : List Key) (key value : List ℕ) (s : SessionState) (k new : Known) (o : Outcome)
+    → is_committed (Some o) ≡ true → PutsJust key value s
+    → declared k.events s.start ≡ standing s.start s.placed s.buffer s.declared
+    → Records bounds k (Answered s.start o) new → WasSeeded new.events key value
+committed_seeds bounds key value s k new (outcome.Committed c) is just shows records =
+    was_seeded bounds key value s k new c just shows records
+committed_seeds bounds key value s k new outcome.Aborted is just shows records = absurd (cc (is))
+committed_seeds bounds key value s k new (outcome.Unknown why) is just shows records = absurd (cc (is))
+committed_seeds bounds key value s k new outcome.ReadOnly is just shows records = absurd (cc (is))
 
 -- what was written stays so
 pub seeded_on : (l h : History) → Begins l h → (key value : List ℕ) → WasSeeded l key value → WasSeeded h key value

@@ -3,11 +3,14 @@ pub mod Balances
 pub mod Collections
 pub mod RequestCounts
 pub mod PlainReplies
+pub mod TransferSteps
 pub mod Replies
 pub mod Resolutions
+pub mod SeedLines
 pub mod Seeds
 pub mod Sends
 pub mod Slots
 pub mod Sources
+pub mod Steps
 pub mod Totals
 pub mod Transfers

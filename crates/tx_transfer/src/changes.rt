@@ -1,6 +1,8 @@
 //! What a transfer writes: a balance on each of its two keys.
-ghost use Rattle.std.specs.Prelude.{◌≡◌, ◌<◌, false, OnOk, OnErr};
+ghost use Rattle.std.specs.Prelude.{◌≡◌, ◌<◌, false, decimal, OnOk, OnErr};
 ghost use Rattle.tx_transaction.specs.Sessions.{is_declared};
+ghost use Rattle.tx_transfer.specs.TransferSteps.{PutsBoth};
+ghost use Rattle.tx_transfer.specs.Steps.{Enters};
 ghost use Rattle.tx_transfer.specs.Transfers.{HasEntered, Moves};
 ghost use Rattle.tx_transfer.specs.declared.balance.TheConstants.{BALANCES};
 
@@ -24,6 +26,7 @@ fn enter<J: JournalId>(
 ) -> Result<(), Fault>
     requires declared { is_declared session.old.state ≡ false }
     requires most { balance < BALANCES }
+    ensures enters { Enters key.now (decimal balance) session.old result session.new }
     ensures entered { OnOk result (HasEntered session.old.state key.now session.new.state) }
     ensures same { OnErr result (session.new ≡ session.old) }
 {
@@ -42,6 +45,12 @@ pub(crate) fn declare<J: JournalId, L: Source>(
     requires most { (left.0 < BALANCES) × (left.1 < BALANCES) }
     requires moves { Moves order.now.from order.now.to session.old.state }
     ensures moves { Moves order.now.from order.now.to session.new.state }
+    ensures puts { PutsBoth J.bounds (record {
+      from = order.now.from;
+      to = order.now.to;
+      amount = order.now.amount;
+      mode = order.now.mode;
+    }) left session.old result session.new }
 {
     let (from, to) = left;
     enter(session, alloc, &order.from, from)?;

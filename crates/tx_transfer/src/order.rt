@@ -3,7 +3,8 @@ ghost use Rattle.std.specs.Prelude.{◌≡◌, ◌≢◌, ◌⊎◌, ◌&&◌, f
 ghost use Rattle.std.proofs.Props.{props};
 ghost use Rattle.tx_types.specs.declared.fault.Fault.TheVariants as fault;
 ghost use Rattle.tx_types.specs.Lengths.{is_key};
-ghost use Rattle.tx_transfer.specs.Sources.{HasPair};
+ghost use Rattle.tx_steps.specs.Steps.{moved};
+ghost use Rattle.tx_transfer.specs.Sources.{HasPair, HasTransfer};
 
 use crate::source::Source;
 use std::alloc::Global;
@@ -22,14 +23,19 @@ pub struct Order<L: Source> {
     pub mode: Mode,
     of: PhantomData<L>,
     ghost apart: { from ≢ to },
-    ghost pair: { HasPair L.text number (Some (from, to)) } by { Prim.hlevel props },
+    ghost said: { HasTransfer L.text number (Some (record {
+      from = from;
+      to = to;
+      amount = amount;
+      mode = mode;
+    })) } by { Prim.hlevel props },
 }
 
 impl<L: Source> Order<L> {
     /// What the line of this number orders.
     pub fn new(alloc: Global, number: u64, line: &Transfer<&str>) -> Result<Order<L>, Fault>
         requires apart { line.now.from.now ≢ line.now.to.now }
-        requires pair { HasPair L.text number (Some (line.now.from.now, line.now.to.now)) }
+        requires said { HasTransfer L.text number (Some (moved line.now)) }
         ensures number { IfOk result (λ order. order.number ≡ number) }
         ensures keys { IfOk result (λ order. (order.from ≡ line.now.from.now) × (order.to ≡ line.now.to.now)) }
         ensures moves { IfOk result (λ order. (order.amount ≡ line.now.amount) × (order.mode ≡ line.now.mode)) }

@@ -1,46 +1,35 @@
 //! A transfer: a transaction that reads the balances of two keys and moves an amount from the first
 //! to the second. Its reads are one step, which asks for no latch, and its writes another, which
 //! asks for those of both keys. A lock in its way is resolved in a step of its own.
-ghost use Rattle.std.specs.Prelude.{◌≡◌, ◌<◌, ℕ, List, ◌++◌, Some, IfErr, OnOk};
+ghost use Rattle.std.specs.Prelude.{◌≡◌, ◌⊎◌, ◌≤◌, ◌<◌, ◌+◌, ℕ, List, ◌++◌, true, false, Some, IfErr, OnOk};
 ghost use Rattle.tx_types.specs.declared.fault.Fault.TheVariants as fault;
 ghost use Rattle.tx_transaction.specs.Sessions.{begun};
 ghost use Rattle.tx_transfer.specs.Sources.{HasPair};
+ghost use Rattle.tx_transfer.specs.TransferSteps.{DoesNext, IsShort, Requests, Resolves, Steps, TurnsTo, resolved_by, starting};
+ghost use Rattle.tx_transfer.specs.declared.progress.TheConstants.{TRIES};
+ghost use Rattle.tx_transfer.specs.declared.progress.TransferProgress.TheVariants as progress;
 ghost use Rattle.tx_transfer.specs.Transfers.{Moves};
 ghost use Rattle.tx_transfer.specs.declared.balance.TheConstants.{BALANCES};
 
-use crate::balance::{after_transfer, balance_of};
-use crate::changes::declare;
+mod reads;
+mod writes;
+
 use crate::context::Context;
 use crate::lock_slots::slots_of;
 use crate::order::Order;
-use crate::progress::TransferProgress;
-use crate::requests;
+use crate::progress::{TRIES, TransferPhase, TransferProgress};
 use crate::source::Source;
 use std::alloc::Global;
 use std::marker::Model;
 use std::sync::Wait;
 use tx_cells::Families;
-use tx_client::{Miss, Phase, Session};
-use tx_core::Answer;
+use tx_client::{Session, Status};
 use tx_journal::JournalId;
 use tx_latch::{Slot, slot_of};
 use tx_types::{Fault, Key, LockInfo};
 
-/// How often one transfer resolves a lock, and how often it draws again.
-const TRIES: u32 = 16;
-
 /// How many requests a step makes at most.
 const REQUESTS: u32 = 16;
-
-// What it does next.
-#[derive(Clone, Copy, Debug, PartialEq, Eq)]
-enum TransferPhase {
-    ReadFrom,
-    ReadTo,
-    Prewrite,
-    Commit,
-    Abort,
-}
 
 // Which latches a request asks for: none, those of the two keys, or those of the lock that
 // stands in the way.
@@ -51,7 +40,8 @@ enum TransferLatches {
     Met,
 }
 
-/// A transfer on its way: a session that writes its two keys. Contracts see the number of its line.
+/// A transfer on its way: a session that writes its two keys. Contracts see the number of its line,
+/// what that moves, its session, and how far it is.
 #[derive(Drop)]
 pub struct TransferState<J: JournalId, L: Source> {
     session: Session<J>,
@@ -68,13 +58,31 @@ pub struct TransferState<J: JournalId, L: Source> {
     ghost small: { found < BALANCES },
 }
 
+// What resolving a lock makes of it.
+fn resolved(came: &Result<Option<Status>, Fault>) -> TransferProgress
+    ensures { result ≡ resolved_by came.now }
+{
+    match came {
+        Ok(_) => TransferProgress::More,
+        Err(_) => TransferProgress::OutOfMemory,
+    }
+}
+
 impl<J: JournalId, L: Source> Model for TransferState<J, L> {
-    ghost use Rattle.std.specs.Prelude.{ℕ};
+    ghost use Rattle.tx_transfer.specs.TransferSteps.{Moving};
     ghost use Rattle.tx_transfer.specs.Transfers.{Moves};
 
-    ghost Value = { ℕ };
+    ghost Value = { Moving };
 
-    ghost view = { λ m. m.order.number };
+    ghost view = { λ m. record {
+      number = m.order.number;
+      what = record { from = m.order.from; to = m.order.to; amount = m.order.amount; mode = m.order.mode };
+      session = m.session;
+      next = m.phase;
+      found = m.found;
+      resolved = m.resolved;
+      late = m.late;
+    } };
 
     ghost invariant = { λ m. Moves m.order.from m.order.to m.session.state };
 }
@@ -83,7 +91,12 @@ impl<J: JournalId, L: Source> TransferState<J, L> {
     /// A transfer of which nothing is read yet, in a session that has just begun.
     pub fn new(session: Session<J>, order: Order<L>) -> TransferState<J, L>
         requires { session.state ≡ begun session.state.start }
-        ensures { result ≡ order.number }
+        ensures { result ≡ starting order.number (record {
+          from = order.from;
+          to = order.to;
+          amount = order.amount;
+          mode = order.mode;
+        }) session }
     {
         TransferState {
             session,
@@ -98,7 +111,9 @@ impl<J: JournalId, L: Source> TransferState<J, L> {
 
     /// Its session, the number of its line, and the keys that it moves between.
     pub fn into_parts(self) -> (Session<J>, u64, (Key, Key))
-        ensures number { result.1 ≡ self }
+        ensures session { result.0 ≡ self.session }
+        ensures number { result.1 ≡ self.number }
+        ensures keys { result.2 ≡ (self.what.from, self.what.to) }
         ensures moves { Moves result.2.0 result.2.1 result.0.state }
         ensures pair { HasPair L.text result.1 (Some result.2) }
     {
@@ -143,18 +158,35 @@ impl<J: JournalId, L: Source> TransferState<J, L> {
         }
     }
 
-    // A lock stands in the way: it is to be resolved next, unless that was done often enough.
-    fn on_lock(
-        &mut self,
-        alloc: Global,
-        info: &LockInfo,
-        otherwise: TransferProgress,
-    ) -> TransferProgress
-        ensures { self.new ≡ self.old }
+    // What it does next.
+    fn next(&self) -> TransferPhase
+        ensures { result ≡ self.now.next }
     {
-        if self.resolved >= TRIES {
-            return otherwise;
-        }
+        self.phase
+    }
+
+    // Does this next, and goes on.
+    fn turn_to(&mut self, phase: TransferPhase) -> TransferProgress
+        ensures { TurnsTo phase self.old result self.new }
+    {
+        self.phase = phase;
+        TransferProgress::More
+    }
+
+    // Whether it met as many locks as it resolves.
+    fn met_enough(&self) -> bool
+        ensures yes { result ≡ true → TRIES ≤ self.now.resolved }
+        ensures no { result ≡ false → self.now.resolved < TRIES }
+    {
+        self.resolved >= TRIES
+    }
+
+    // A lock stands in the way: it is to be resolved next.
+    fn meet(&mut self, alloc: Global, info: &LockInfo) -> TransferProgress
+        requires { self.old.resolved < TRIES }
+        ensures { ((result ≡ progress.More) × (self.new ≡ record self.old { resolved = self.old.resolved + 1 }))
+            ⊎ IsShort self.old result self.new }
+    {
         match slots_of(alloc, info) {
             Ok(slots) => {
                 self.resolved += 1;
@@ -164,190 +196,40 @@ impl<J: JournalId, L: Source> TransferState<J, L> {
             Err(_) => TransferProgress::OutOfMemory,
         }
     }
-}
 
-// The key that is read in this phase.
-fn key_of<L: Source>(order: &Order<L>, phase: TransferPhase) -> &Key {
-    if phase == TransferPhase::ReadFrom {
-        &order.from
-    } else {
-        &order.to
-    }
-}
-
-impl<J: JournalId, L: Source> TransferState<J, L> {
-    // The balance of a key was read.
-    fn on_balance(&mut self, alloc: Global, balance: u64) -> TransferProgress
-        requires { balance < BALANCES }
+    // Whether the lock that was met is to be resolved next: it is then about to be.
+    fn takes_lock(&mut self) -> bool
         ensures { self.new ≡ self.old }
     {
-        if self.phase == TransferPhase::ReadFrom {
-            self.found = balance;
-            self.phase = TransferPhase::ReadTo;
-            return TransferProgress::More;
-        }
-        let Some(left) = after_transfer(self.found, balance, self.order.amount) else {
-            return TransferProgress::Over;
-        };
-        if self.session.is_declared() {
-            return TransferProgress::Over;
-        }
-        match declare(&mut self.session, alloc, &self.order, left) {
-            Ok(()) => {
-                self.phase = TransferPhase::Prewrite;
-                TransferProgress::More
-            }
-            Err(Fault::OracleSpent) => TransferProgress::Spent,
-            Err(_) => TransferProgress::OutOfMemory,
-        }
+        let resolves = self.resolving.is_some();
+        self.resolving = None;
+        resolves
     }
 
-    // Reads the key that is read next.
-    fn look<F: Families + Drop, R: Wait + Drop>(
-        &mut self,
-        context: &mut Context<J, F, R>,
-    ) -> Result<Answer, Miss>
-        ensures { self.new ≡ self.old }
-    {
-        context.show();
-        requests::get(&mut self.session, key_of(&self.order, self.phase), context)
-    }
-
-    // Reads the balance that is read next.
-    fn read<F: Families + Drop, R: Wait + Drop>(
+    // Resolves the lock that its session met.
+    fn resolve<F: Families + Drop, R: Wait + Drop>(
         &mut self,
         context: &mut Context<J, F, R>,
     ) -> TransferProgress
-        ensures { self.new ≡ self.old }
+        ensures { Resolves J.bounds self.old result self.new }
     {
-        match self.look(context) {
-            Ok(Answer::Found(value)) => {
-                self.on_balance(context.alloc, balance_of(value.as_bytes()))
-            }
-            Ok(Answer::Nothing) => self.on_balance(context.alloc, 0),
-            Ok(Answer::KeyIsLocked(info)) => self.on_lock(
-                context.alloc,
-                &info,
-                TransferProgress::Over,
-            ),
-            Ok(_) => TransferProgress::Over,
-            Err(_) => TransferProgress::OutOfMemory,
-        }
+        let came = context.resolve(&mut self.session, None);
+        resolved(&came)
     }
 
-    // It gives up, if it still may.
-    fn turn_to_abort(&mut self) -> TransferProgress
-        ensures { self.new ≡ self.old }
-    {
-        self.phase = TransferPhase::Abort;
-        TransferProgress::More
-    }
-
-    // What comes of a prewrite.
-    fn on_prewrite(
-        &mut self,
-        alloc: Global,
-        answered: Result<Option<Answer>, Miss>,
-    ) -> TransferProgress
-        ensures { self.new ≡ self.old }
-    {
-        match answered {
-            Ok(Some(Answer::Prewritten(_) | Answer::AlreadyCommitted { .. })) =>
-                TransferProgress::More,
-            Ok(Some(Answer::KeyIsLocked(info))) => {
-                if self.resolved >= TRIES {
-                    self.turn_to_abort()
-                } else {
-                    self.on_lock(alloc, &info, TransferProgress::More)
-                }
-            }
-            Ok(Some(Answer::BelowSafePoint { .. })) | Err(_) => TransferProgress::Over,
-            Ok(_) => self.turn_to_abort(),
-        }
-    }
-
-    // Locks the next key, until the commit is due.
-    fn prewrite<F: Families + Drop, R: Wait + Drop>(
+    // Does what it does next.
+    fn go_on<F: Families + Drop, R: Wait + Drop>(
         &mut self,
         context: &mut Context<J, F, R>,
     ) -> TransferProgress
-        ensures { self.new ≡ self.old }
+        ensures { DoesNext J.bounds self.old.next self.old result self.new }
     {
-        if self.session.can_commit() || self.session.can_draw() {
-            self.phase = TransferPhase::Commit;
-            return self.commit(context);
-        }
-        if !self.session.is_declared() {
-            return TransferProgress::Over;
-        }
-        context.show();
-        let answered = requests::prewrite(context.alloc, &mut self.session, context);
-        self.on_prewrite(context.alloc, answered)
-    }
-
-    // What comes of a commit.
-    fn on_commit(
-        &mut self,
-        may_abort: bool,
-        answered: Result<Option<Answer>, Miss>,
-    ) -> TransferProgress
-        ensures { self.new ≡ self.old }
-    {
-        match answered {
-            Ok(Some(Answer::Committed(_))) if self.session.transaction().is_due(Phase::Commit) =>
-                TransferProgress::More,
-            Ok(Some(Answer::Committed(_) | Answer::BelowSafePoint { .. })) | Ok(None) | Err(_) =>
-                TransferProgress::Over,
-            Ok(Some(_)) => {
-                self.late = self.late.saturating_add(1);
-                if self.late > TRIES && may_abort {
-                    self.turn_to_abort()
-                } else {
-                    TransferProgress::More
-                }
-            }
-        }
-    }
-
-    // Commits the next key, at a timestamp that is drawn where none is.
-    fn commit<F: Families + Drop, R: Wait + Drop>(
-        &mut self,
-        context: &mut Context<J, F, R>,
-    ) -> TransferProgress
-        ensures { self.new ≡ self.old }
-    {
-        if self.session.can_draw() && self.session.draw_commit().is_err() {
-            return TransferProgress::Spent;
-        }
-        if !self.session.can_commit() {
-            return self.turn_to_abort();
-        }
-        context.show();
-        let answered = requests::commit(&mut self.session, context);
-        let may_abort = self.session.can_abort();
-        self.on_commit(may_abort, answered)
-    }
-
-    // Takes it back, as far as that is open.
-    fn abort<F: Families + Drop, R: Wait + Drop>(
-        &mut self,
-        context: &mut Context<J, F, R>,
-    ) -> TransferProgress
-        ensures { self.new ≡ self.old }
-    {
-        if self.session.can_abort() {
-            context.show();
-            return match requests::abort(&mut self.session, context) {
-                Ok(None) | Ok(Some(Answer::BelowSafePoint { .. })) | Err(_) =>
-                    TransferProgress::Over,
-                Ok(Some(_)) => TransferProgress::More,
-            };
-        }
-        if self.session.can_commit() || self.session.can_draw() {
-            self.phase = TransferPhase::Commit;
-            self.commit(context)
-        } else {
-            TransferProgress::Over
+        match self.next() {
+            TransferPhase::ReadFrom => self.read(context),
+            TransferPhase::ReadTo => self.read(context),
+            TransferPhase::Prewrite => self.prewrite(context),
+            TransferPhase::Commit => self.commit(context),
+            TransferPhase::Abort => self.abort(context),
         }
     }
 
@@ -356,20 +238,12 @@ impl<J: JournalId, L: Source> TransferState<J, L> {
         &mut self,
         context: &mut Context<J, F, R>,
     ) -> TransferProgress
-        ensures { self.new ≡ self.old }
+        ensures { Requests J.bounds self.old result self.new }
     {
-        if self.resolving.is_some() {
-            self.resolving = None;
-            return match context.resolve(&mut self.session, None) {
-                Ok(_) => TransferProgress::More,
-                Err(_) => TransferProgress::OutOfMemory,
-            };
-        }
-        match self.phase {
-            TransferPhase::ReadFrom | TransferPhase::ReadTo => self.read(context),
-            TransferPhase::Prewrite => self.prewrite(context),
-            TransferPhase::Commit => self.commit(context),
-            TransferPhase::Abort => self.abort(context),
+        if self.takes_lock() {
+            self.resolve(context)
+        } else {
+            self.go_on(context)
         }
     }
 
@@ -378,13 +252,15 @@ impl<J: JournalId, L: Source> TransferState<J, L> {
         &mut self,
         context: &mut Context<J, F, R>,
     ) -> TransferProgress
-        ensures { self.new ≡ self.old }
+        ensures { Steps J.bounds self.old result self.new }
     {
         let latches = self.latches();
         'requests: for _ in 0..REQUESTS {
-            let progress = self.request(context);
-            if progress != TransferProgress::More || self.latches() != latches {
-                return progress;
+            match self.request(context) {
+                TransferProgress::More => if self.latches() != latches {
+                    return TransferProgress::More;
+                },
+                other => return other,
             }
         }
         TransferProgress::More

@@ -1,54 +1,57 @@
--- The steps of a cycle hold under each explanation.
-use Rattle.std.proofs.Common.{◌≡◌, ◌⊎◌, ℕ, ◌+◌, ◌-◌, ◌<◌, ◌≤◌, List, length, Contains, arith, inl, inr, refl, sym, ap, ◌∙◌, subst, IsTrue, Option, Some, None}
+-- The steps of a cycle are so by the recording.
+use Rattle.std.proofs.Common.{◌≡◌, ◌⊎◌, ℕ, ◌+◌, List, Contains, arith, inl, inr, sym, ap, ◌∙◌, subst, Option, Some}
 use Rattle.std.specs.Prelude.{IfSome}
 use Rattle.std.proofs.lemmas.Option.{slice_get-get_or}
 use Rattle.tx_recording.specs.declared.recording.Orders.{Orders}
 use Rattle.tx_recording.specs.declared.recording.Recording.{Recording}
-use Rattle.tx_recording.specs.Explanations.{Explanation, IsWriter, IsNewest, Explains}
+use Rattle.std.proofs.lemmas.Bool.{cases_eq}
 use Rattle.tx_history.specs.declared.dependency.Kind.{Kind}
 use Rattle.tx_history.specs.declared.dependency.Kind.TheVariants.{Own, Ww, Wr, Rw, After}
-use Rattle.tx_history.specs.declared.recorded.Read.{Read}
 use Rattle.tx_history.specs.Histories.{History, HasVersion}
 use Rattle.tx_history.specs.declared.dependency.Dependency.{Dependency}
 use Rattle.tx_history.specs.Dependencies.{Depends, AreDependencies}
 use Rattle.tx_verdict.specs.declared.verdict.Edge.{Edge}
-use Rattle.tx_verdict.specs.declared.verdict.Edge.TheVariants as edge
 use Rattle.tx_verdict.specs.declared.verdict.CycleStep.{CycleStep}
-use Rattle.tx_verdict.specs.Forced.{IsForced, AreForced}
+use Rattle.tx_verdict.specs.Forced.{AreForced}
+use Rattle.tx_verdict.specs.Reasons.{SawOf, HasWritten, IsBehind, HasMissed}
 use Rattle.tx_verdict.specs.Steps.{IsEdgeOf, IsEdgeFor, IsStep, AreSteps}
-use Rattle.tx_verdict.proofs.ForcedTimestamps.{newest}
 
-module _ (r : Recording) (orders : Orders) (h : History) (key : ℕ → ℕ) (forced : AreForced r orders h key) where
+module _ (r : Recording) (orders : Orders) (h : History) (key : ℕ → ℕ) (f : AreForced r h key) where
+  missed : (t q v : ℕ) → Contains h.reads record { txn = t; key = q; version = v } → HasVersion h q (v + 1)
+      → HasMissed r (key q) t (h.writer q (v + 1))
+  missed t q v reads has = elim (cases_eq v 0) [
+    | inl none ↦ inl (f.none record { txn = t; key = q; version = v } reads none)
+    | inr some ↦ (
+        let high = has.1 in
+        let old : HasVersion h q v = (omega (arith, some), omega (arith, high)) in
+        inr (h.writer q v, f.seen record { txn = t; key = q; version = v } reads old, f.steps q v old has)
+        )
+  ]
+
   by_kind : (kind : Kind) (t u q v : ℕ) (e : Edge) → Depends h kind t u q v → IsEdgeFor kind e
-      → (x : Explanation) → Explains r orders x → IsEdgeOf r orders x e t u (Some (key q))
-  by_kind Own t u q v e depends none x so = absurd none
-  by_kind After t u q v e depends none x so = absurd none
-  by_kind Ww t u q v e (has, more, from, to) is x so =
-      let f = forced x so in
-      let P : ℕ → Type 0 = λ z. IsWriter r x z (key q) × IsWriter r x u (key q) × (x.commit z ≤ x.start u) in
-      let Q : ℕ → Type 0 = λ z. IsWriter r x (h.writer q v) (key q) × IsWriter r x z (key q)
-      × (x.commit (h.writer q v) ≤ x.start z) in
-      let R : Edge → Type 0 = λ z. IsEdgeOf r orders x z t u (Some (key q)) in
+      → IsEdgeOf r orders e t u (Some (key q))
+  by_kind Own t u q v e depends none = absurd none
+  by_kind After t u q v e depends none = absurd none
+  by_kind Ww t u q v e (has, more, from, to) is =
+      let P : ℕ → Type 0 = λ z. HasWritten r z (key q) × HasWritten r u (key q) × IsBehind r (key q) z u in
+      let Q : ℕ → Type 0 = λ z. HasWritten r (h.writer q v) (key q) × HasWritten r z (key q)
+      × IsBehind r (key q) (h.writer q v) z in
+      let R : Edge → Type 0 = λ z. IsEdgeOf r orders z t u (Some (key q)) in
       subst R (sym is) (subst P from (subst Q to (f.writers q v has, f.writers q (v + 1) more, f.steps q v has more)))
-  by_kind Wr t u q v e (reads, has, from) is x so =
-      let f = forced x so in
-      let P : ℕ → Type 0 = λ z. IsNewest r x (key q) (x.start u) z in
-      let R : Edge → Type 0 = λ z. IsEdgeOf r orders x z t u (Some (key q)) in
+  by_kind Wr t u q v e (reads, has, from) is =
+      let P : ℕ → Type 0 = λ z. SawOf r u (key q) z in
+      let R : Edge → Type 0 = λ z. IsEdgeOf r orders z t u (Some (key q)) in
       subst R (sym is) (subst P from (f.seen record { txn = u; key = q; version = v } reads has))
-  by_kind Rw t u q v e (reads, has, to) is x so =
-      let f = forced x so in
-      let P : ℕ → Type 0 = λ z. IsWriter r x z (key q) × (x.start t < x.commit z) in
-      let R : Edge → Type 0 = λ z. IsEdgeOf r orders x z t u (Some (key q)) in
-      subst R (sym is) (subst P to (
-        f.writers q (v + 1) has,
-        newest r orders x so h key f record { txn = t; key = q; version = v } (v + 1) reads has (omega arith),
-      ))
+  by_kind Rw t u q v e (reads, has, to) is =
+      let P : ℕ → Type 0 = λ z. HasWritten r z (key q) × HasMissed r (key q) t z in
+      let R : Edge → Type 0 = λ z. IsEdgeOf r orders z t u (Some (key q)) in
+      subst R (sym is) (subst P to (f.writers q (v + 1) has, missed t q v reads has))
 
   pub step_on : (kind : Kind) (t u q v k : ℕ) (e : Edge) → Depends h kind t u q v → IsEdgeFor kind e → k ≡ key q
       → IsStep r orders record { from = t; edge = e; key = Some k; to = u }
-  step_on kind t u q v k e depends is at x so =
-      let P : ℕ → Type 0 = λ z. IsEdgeOf r orders x e t u (Some z) in
-      subst P (sym at) (by_kind kind t u q v e depends is x so)
+  step_on kind t u q v k e depends is at =
+      let P : ℕ → Type 0 = λ z. IsEdgeOf r orders e t u (Some z) in
+      subst P (sym at) (by_kind kind t u q v e depends is)
 
 -- each of the dependencies of a cycle holds
 pub depends_all : (h : History) (nodes : List ℕ) (found list : List Dependency) → list ≡ found

@@ -1,5 +1,4 @@
 pub mod Fits
-pub mod ForcedTimestamps
 pub mod Links
 pub mod Texts
 pub mod Views
@@ -7,10 +6,14 @@ pub mod Refutations
 pub mod Together
 pub mod Distinct
 pub mod Blocks
+pub mod Reasons
 pub mod Chains
+pub mod Trains
 pub mod Small
 pub mod Whole
 pub mod Prefixes
 pub mod Torn
-pub mod Moments
 pub mod CycleSteps
+pub mod Rounds
+pub mod Known
+pub mod Direct

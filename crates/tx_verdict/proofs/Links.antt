@@ -1,18 +1,9 @@
 -- Writers of a key that saw one another leave no gap.
-use Rattle.std.proofs.Common.{◌≡◌, ◌⊎◌, ◌≢◌, ℕ, ◌+◌, ◌<◌, ◌≤◌, List, length, arith, inl, inr, refl, sym, ap, ◌∙◌, subst, zero, suc, IsTrue, slice_index}
+use Rattle.std.proofs.Common.{◌≢◌, ℕ, ◌≤◌, List, arith, inl, inr, sym, zero, suc, slice_index}
 use Rattle.tx_recording.specs.declared.recording.Orders.{Orders}
 use Rattle.tx_recording.specs.declared.recording.Recording.{Recording}
-use Rattle.tx_recording.specs.Explanations.{Explanation, IsWriter, IsNewest, Explains}
-use Rattle.tx_verdict.specs.Forced.{StartsAt, IsBased, IsLinked, AreWriters}
-
--- who saw the one before it starts when that has committed
-pub based_link : (r : Recording) (k : ℕ) (ws : List ℕ) (i : ℕ) → IsBased r k ws (i + 1) → IsLinked r ws i
-based_link r k ws i based orders x e =
-    let same : i + 1 ≡ suc i = omega arith in
-    let at : StartsAt r x k ws (suc i) = subst (λ q. StartsAt r x k ws q) same (based orders x e) in
-    let le = at.1 in
-    let P : ℕ → Type 0 = λ q. x.commit (slice_index ws i) ≤ x.start (slice_index ws q) in
-    subst P (sym same) le
+use Rattle.tx_recording.specs.Explanations.{Explanation, IsWriter, Explains}
+use Rattle.tx_verdict.specs.Forced.{StartsAt}
 
 module _ (r : Recording) (orders : Orders) (x : Explanation) (e : Explains r orders x) (k : ℕ) (ws : List ℕ) (n h : ℕ)
     (writers : (i : ℕ) → i ≤ n → IsWriter r x (slice_index ws i) k) (based : (i : ℕ) → i ≤ n → StartsAt r x k ws i)

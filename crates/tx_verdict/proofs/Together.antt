@@ -1,5 +1,5 @@
 -- All that was looked at together.
-use Rattle.std.proofs.Common.{◌≡◌, ◌⊎◌, ℕ, ◌+◌, ◌-◌, ◌*◌, ◌<◌, ◌≤◌, Bool, true, false, List, length, Contains, arith, inl, inr, refl, sym, ap, ◌∙◌, subst, IsTrue, slice_index, slice_index_or}
+use Rattle.std.proofs.Common.{◌≡◌, ◌⊎◌, ℕ, ◌+◌, ◌-◌, ◌*◌, ◌<◌, ◌≤◌, Bool, true, false, List, length, Contains, arith, inl, inr, refl, sym, ap, ◌∙◌, subst, IsTrue, Option, slice_index, slice_index_or}
 use Rattle.std.proofs.lemmas.Bool.{cases_lt, false≢true}
 use Rattle.std.proofs.lemmas.List.{get_or_past}
 use Rattle.tx_recording.specs.declared.recording.Outcome.TheVariants.{Ok as Committed, Fail as Failed}
@@ -11,20 +11,17 @@ use Rattle.tx_recording.specs.Explanations.{after, IsPut, Explanation, Explains,
 use Rattle.tx_views.specs.declared.view.View.{View}
 use Rattle.tx_views.specs.Views.{AreViews}
 use Rattle.tx_history.specs.declared.recorded.Read.{Read}
-use Rattle.tx_history.specs.declared.recorded.After.{After}
 use Rattle.tx_history.specs.Histories.{History, HasVersion, IsAssignment}
 use Rattle.tx_history.specs.Records.{history_of, writers_of}
 use Rattle.tx_verdict.specs.declared.versions.Versions.{Versions}
 use Rattle.tx_verdict.specs.declared.verdict.Timestamps.{Timestamps}
 use Rattle.tx_verdict.specs.Versions.{text_of, live_of, IsKeyFit, IsPlaced, IsViewFit}
 use Rattle.tx_verdict.specs.Fits.{IsFit, last_by}
-use Rattle.tx_verdict.specs.Forced.{AreForced, AreKnown, IsChain, IsReadForced, key_of}
-use Rattle.tx_verdict.specs.Verdicts.{AreTimestampsOf, IsRefused}
+use Rattle.tx_verdict.specs.Forced.{AreForced, IsChain, IsReadForced, key_of}
+use Rattle.tx_verdict.specs.Verdicts.{AreTimestampsOf}
 use Rattle.tx_verdict.proofs.Fits.{explains_so}
 use Rattle.tx_clock.specs.KeptOrder.{KeepsPairs}
-use Rattle.tx_verdict.specs.Pairs.{IsPair}
-use Rattle.tx_verdict.proofs.ForcedTimestamps.{start_in, commit_in, assigned}
-use Rattle.tx_verdict.proofs.Moments.{tick_of, pair_after}
+use Rattle.tx_verdict.specs.Reasons.{IsBehind}
 
 pub fit_of : (r : Recording) (views : List View) (v : Versions) → txns_of r ≤ v.recorded.txns
     → ((t : ℕ) → t < txns_of r → (transaction_at r t).outcome ≡ Committed → IsTrue (live_of v t))
@@ -57,35 +54,24 @@ fit_of r views v enough ok fail placed seen keys = record {
   reads = seen;
 }
 
-pub forced_of : (r : Recording) (orders : Orders) (v : Versions) → ((q : ℕ) → IsChain r v q)
+pub forced_of : (r : Recording) (v : Versions) → ((q : ℕ) → IsChain r v q)
     → ((p : Read) → Contains v.recorded.reads.items p → IsReadForced r v p)
-    → AreForced r orders (history_of v.recorded) (key_of v)
-forced_of r orders v chains reads x e = record {
+    → AreForced r (history_of v.recorded) (key_of v)
+forced_of r v chains reads = record {
   writers = λ k i has. (let low = has.0 in
       let high = has.1 in
-      (chains k).0 orders x e (i - 1) (omega (arith, low, high)));
+      (chains k).0 (i - 1) (omega (arith, low, high)));
   steps = λ k i has more. (let low = has.0 in
       let high = more.1 in
-      let link = (chains k).1 (i - 1) (omega (arith, low, high)) orders x e in
+      let link = (chains k).1 (i - 1) (omega (arith, low, high)) in
       let next : i - 1 + 1 ≡ i + 1 - 1 = omega (arith, low) in
-      let P : ℕ → Type 0 = λ q. x.commit (slice_index (writers_of v.recorded k) (i - 1)) ≤ x.start
+      let P : ℕ → Type 0 = λ q. IsBehind r (key_of v k) (slice_index (writers_of v.recorded k) (i - 1))
       (slice_index (writers_of v.recorded k) q) in
       subst P next link);
-  seen = λ p is has. ((reads p is).1 orders x e).0 has;
-  none = λ p is none. ((reads p is).1 orders x e).1 none;
+  seen = λ p is has. (reads p is).1 has;
+  none = λ p is none. (reads p is).2 none;
   readers = λ p is. (reads p is).0;
 }
-
--- a history that has no timestamps, and holds under each explanation, refuses each
-pub refused_of : (r : Recording) (orders : Orders) (v : Versions)
-    → AreForced r orders (history_of v.recorded) (key_of v)
-    → AreKnown r v → ((p : After) → Contains v.recorded.after.items p → IsPair r orders v p)
-    → ((start commit : ℕ → ℕ) → IsAssignment (history_of v.recorded) start commit → ⊥) → IsRefused r orders
-refused_of r orders v forced known pairs none x e =
-    let room = 2 * length v.times.items + 3 in
-    none (start_in r x room (tick_of r x v)) (commit_in r x room (tick_of r x v))
-    (assigned r orders x e (history_of v.recorded) (key_of v) (forced x e) room (omega arith) (tick_of r x v)
-    (λ p is. pair_after r orders x e v known room (omega arith) p (pairs p is)))
 
 pub timestamps_of : (r : Recording) (orders : Orders) (views : List View) (v : Versions) (starts commits : List ℕ)
     (t : Timestamps)

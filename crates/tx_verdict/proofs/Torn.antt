@@ -1,12 +1,10 @@
 -- What stands round a value that was seen.
-use Rattle.std.proofs.Common.{◌≡◌, ◌⊎◌, ◌≢◌, ℕ, ◌+◌, ◌-◌, ◌<◌, ◌≤◌, Bool, true, false, List, [], ◌∷◌, ◌++◌, length, take, drop, get_or, Contains, arith, inl, inr, refl, sym, ap, ◌∙◌, subst, IsTrue, Option, Some, None}
-use Rattle.std.proofs.lemmas.Bool.{cases_eq, cases_lt, cases_Bool}
-use Rattle.std.proofs.lemmas.List.{get_or_append_left, get_or-append_right, length-append, append_assoc, drop_at, drop-append-le}
-use Rattle.std.proofs.lemmas.List.Elements.{Contains-get_or}
-use Rattle.tx_recording.specs.declared.recording.Orders.{Orders}
+use Rattle.std.proofs.Common.{◌≡◌, ℕ, ◌+◌, ◌-◌, ◌<◌, ◌≤◌, true, false, List, [], ◌++◌, length, drop, get_or, arith, inl, inr, refl, sym, ap, ◌∙◌, subst, Option, Some, None}
+use Rattle.std.proofs.lemmas.Bool.{cases_Bool}
+use Rattle.std.proofs.lemmas.List.{get_or_append_left, get_or-append_right, length-append, append_assoc, drop_at}
 use Rattle.tx_recording.specs.declared.recording.Recording.{Recording}
 use Rattle.tx_recording.specs.Recordings.{list_of, ops_of}
-use Rattle.tx_recording.specs.Explanations.{after, PutsIn, Explanation, Sees, Explains}
+use Rattle.tx_recording.specs.Explanations.{after, Sees}
 use Rattle.tx_views.specs.declared.owner.Owner.{Owner}
 use Rattle.tx_views.specs.declared.view.View.{View}
 use Rattle.tx_views.specs.declared.effect.Effect.{Effect}
@@ -14,12 +12,11 @@ use Rattle.tx_views.specs.Owners.{AreOwners, owner_at}
 use Rattle.tx_views.specs.Views.{Saw, IsViewOf, IsEffect, left_by}
 use Rattle.tx_views.proofs.ReadViews.{appended, cleared}
 use Rattle.tx_views.proofs.ValueOwners.{put_once}
-use Rattle.tx_verdict.specs.declared.verdict.Fact.{Fact}
 use Rattle.tx_verdict.specs.declared.verdict.Rule.TheVariants.{G1b, Duplicate, IncompatibleOrder}
 use Rattle.tx_verdict.specs.Facts.{IsTorn, IsTornBy, IsDistinct, AreLists}
-use Rattle.tx_verdict.specs.Verdicts.{IsNever, IsWrong}
-use Rattle.tx_verdict.proofs.Distinct.{IsOnce, after_distinct, none_distinct, seen_distinct}
-use Rattle.tx_verdict.proofs.Chains.{once_each}
+use Rattle.tx_verdict.specs.Verdicts.{IsWrong}
+use Rattle.tx_verdict.proofs.Distinct.{after_distinct, none_distinct, seen_distinct}
+use Rattle.tx_verdict.proofs.Reasons.{once_each}
 use Rattle.tx_verdict.proofs.Views.{view_sees, owner_puts}
 use Rattle.tx_verdict.proofs.Prefixes.{agree}
 use Rattle.tx_verdict.proofs.Whole.{is_whole}

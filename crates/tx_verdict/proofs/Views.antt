@@ -1,19 +1,17 @@
 -- What views say of who committed when.
-use Rattle.std.proofs.Common.{◌≡◌, ◌⊎◌, ◌≢◌, ℕ, ◌+◌, ◌-◌, ◌<◌, ◌≤◌, List, [], ◌∷◌, ◌++◌, length, take, drop, get_or, Contains, arith, inl, inr, refl, sym, ap, ◌∙◌, subst, IsTrue, Option, Some, None}
-use Rattle.std.proofs.lemmas.List.{take_more, take_all}
+use Rattle.std.proofs.Common.{◌≡◌, ℕ, ◌+◌, ◌-◌, ◌<◌, List, [], length, take, drop, get_or, Contains, arith, inr, refl, sym, ap, ◌∙◌, subst, Option, Some}
 use Rattle.std.proofs.lemmas.List.Elements.{Contains-get_or}
 use Rattle.tx_recording.specs.declared.recording.Orders.{Orders}
 use Rattle.tx_recording.specs.declared.recording.Recording.{Recording}
-use Rattle.tx_recording.specs.Recordings.{list_of, transaction_at, txns_of, ops_of, no_op}
-use Rattle.tx_recording.specs.Explanations.{after, op_at, IsPut, Explanation, IsWriter, IsNewest, Sees, Explains}
-use Rattle.tx_recording.proofs.Puts.{IsLast}
-use Rattle.tx_recording.proofs.Seen.{seen_last, seen_none, seen_put}
+use Rattle.tx_recording.specs.Recordings.{list_of, txns_of, ops_of, no_op}
+use Rattle.tx_recording.specs.Explanations.{after, op_at, IsPut, Explanation, Sees, Explains}
 use Rattle.tx_views.specs.declared.owner.Owner.{Owner}
 use Rattle.tx_views.specs.declared.view.View.{View}
 use Rattle.tx_views.specs.Owners.{AreOwners, owner_at}
-use Rattle.tx_views.specs.Views.{IsViewOf}
+use Rattle.tx_views.specs.Views.{Saw, IsViewOf}
 use Rattle.tx_views.proofs.ValueOwners.{put_by_owner}
 use Rattle.tx_verdict.specs.Facts.{SawValue, IsPutBy}
+use Rattle.tx_verdict.specs.Reasons.{SawOf, HasCommitted}
 use Rattle.tx_clock.proofs.ClockOrder.{is_one}
 
 -- what a view says its transaction saw, it saw
@@ -34,66 +32,6 @@ owner_is r table t k v o owners put at =
     let e : Some o ≡ Some record { txn = t; place = p } = sym at ∙ also in
     let same : o ≡ record { txn = t; place = p } = grind (arith, e) in
     ap (λ (q : Owner). q.txn) same
-
-pub last_at : (xs : List ℕ) (n : ℕ) → length xs ≡ n + 1 → IsLast xs (get_or xs n 0)
-last_at xs n is = (take n xs, sym (take_all (n + 1) xs (omega (arith, is))) ∙ take_more xs n 0 (omega (arith, is)))
-
--- the view ends in a value of the writer: so that is the newest
-pub newest_by : (r : Recording) (table : List (Option Owner)) (v : View) (list : List ℕ) (writer : ℕ)
-    → AreOwners r table
-    → IsViewOf r v → list ≡ list_of r v.span → (length list ≡ 0 → ⊥)
-    → ((o : Owner) × (owner_at table (get_or list (length list - 1) 0) ≡ Some o) × (o.txn ≡ writer))
-    → (orders : Orders) (x : Explanation) → Explains r orders x → IsNewest r x v.key (x.start v.txn) writer
-newest_by r table v list writer owners view is some (o, at, by) orders x e =
-    let n : length list ≡ length list - 1 + 1 = omega (arith, some) in
-    let last = last_at list (length list - 1) n in
-    let sees = view_sees r orders x e v view in
-    let (u, newest, put, end) =
-    seen_last r orders x e v.key (x.start v.txn) (list_of r v.span) (get_or list (length list - 1) 0) sees
-    (subst (λ q. IsLast q (get_or list (length list - 1) 0)) is last) in
-    let same : u ≡ writer = sym (owner_is r table u v.key _ o owners put at) ∙ by in
-    subst (λ q. IsNewest r x v.key (x.start v.txn) q) same newest
-
--- the view is empty: so all writers commit later
-pub nothing_by : (r : Recording) (v : View) → IsViewOf r v → v.span.count ≡ 0
-    → (orders : Orders) (x : Explanation) → Explains r orders x → (w : ℕ) → IsWriter r x w v.key
-    → x.start v.txn < x.commit w
-nothing_by r v view none orders x e w writer =
-    let n : v.span.first + v.span.count - v.span.first ≡ 0 = omega (arith, none) in
-    let empty : list_of r v.span ≡ [] = ap (λ q. take q (drop v.span.first r.elements.items)) n in
-    seen_none r orders x e v.key (x.start v.txn) (list_of r v.span) (view_sees r orders x e v view) empty w writer
-
--- who put a value that was seen has committed
-pub shown_by : (r : Recording) (table : List (Option Owner)) (v : View) (list : List ℕ) (i txn : ℕ) → AreOwners r table
-    → IsViewOf r v → list ≡ list_of r v.span → i < length list
-    → ((o : Owner) × (owner_at table (get_or list i 0) ≡ Some o) × (o.txn ≡ txn))
-    → (orders : Orders) (x : Explanation) → Explains r orders x → IsTrue (x.committed txn)
-shown_by r table v list i txn owners view is lt (o, at, by) orders x e =
-    let there : Contains (list_of r v.span) (get_or list i 0) =
-    subst (λ q. Contains q (get_or list i 0)) is (Contains-get_or list i 0 lt) in
-    let (u, writer, put, before) = seen_put r orders x e v.key (x.start v.txn) (list_of r v.span) (get_or list i 0)
-    (view_sees r orders x e v view) there in
-    let same : u ≡ txn = sym (owner_is r table u v.key _ o owners put at) ∙ by in
-    subst (λ q. IsTrue (x.committed q)) same writer.0
-
--- the same, by the numbers of the transaction and the key
-pub newest_at : (r : Recording) (table : List (Option Owner)) (v : View) (list : List ℕ) (txn k writer : ℕ)
-    → AreOwners r table
-    → IsViewOf r v → v.txn ≡ txn → v.key ≡ k → list ≡ list_of r v.span → (length list ≡ 0 → ⊥)
-    → ((o : Owner) × (owner_at table (get_or list (length list - 1) 0) ≡ Some o) × (o.txn ≡ writer))
-    → (orders : Orders) (x : Explanation) → Explains r orders x → IsNewest r x k (x.start txn) writer
-newest_at r table v list txn k writer owners view of_txn of_key is some by orders x e =
-    let P : ℕ → Type 0 = λ q. IsNewest r x q (x.start v.txn) writer in
-    let Q : ℕ → Type 0 = λ q. IsNewest r x k (x.start q) writer in
-    subst Q of_txn (subst P of_key (newest_by r table v list writer owners view is some by orders x e))
-
-pub nothing_at : (r : Recording) (v : View) (txn k : ℕ) → IsViewOf r v → v.txn ≡ txn → v.key ≡ k → v.span.count ≡ 0
-    → (orders : Orders) (x : Explanation) → Explains r orders x → (w : ℕ) → IsWriter r x w k → x.start txn < x.commit w
-nothing_at r v txn k view of_txn of_key none orders x e w writer =
-    let P : ℕ → Type 0 = λ q. IsWriter r x w q in
-    let lt = nothing_by r v view none orders x e w (subst P (sym of_key) writer) in
-    let s = ap x.start of_txn in
-    omega (arith, lt, s)
 
 -- a value of a view was seen
 pub saw_value : (r : Recording) (v : View) → IsViewOf r v → (list : List ℕ) → list ≡ list_of r v.span → (i : ℕ)
@@ -116,6 +54,51 @@ owner_puts r table owners v o at =
         puts,
       ),
     )
+
+-- what a view says was seen
+pub view_saw : (r : Recording) (v : View) (list : List ℕ) (txn k : ℕ) → IsViewOf r v → v.txn ≡ txn → v.key ≡ k
+    → list ≡ list_of r v.span
+    → Saw r txn k list
+view_saw r v list txn k view of_txn of_key is =
+    let P : ℕ → Type 0 = λ q. Saw r q v.key (list_of r v.span) in
+    let Q : ℕ → Type 0 = λ q. Saw r txn q (list_of r v.span) in
+    let R : List ℕ → Type 0 = λ q. Saw r txn k q in
+    subst R (sym is) (subst Q of_key (subst P of_txn view.1))
+
+-- the view ends in a value of the writer
+pub saw_of : (r : Recording) (table : List (Option Owner)) (v : View) (list : List ℕ) (txn k writer : ℕ)
+    → AreOwners r table
+    → IsViewOf r v → v.txn ≡ txn → v.key ≡ k → list ≡ list_of r v.span → (length list ≡ 0 → ⊥)
+    → ((o : Owner) × (owner_at table (get_or list (length list - 1) 0) ≡ Some o) × (o.txn ≡ writer))
+    → SawOf r txn k writer
+saw_of r table v list txn k writer owners view of_txn of_key is some (o, at, by) = (
+  list,
+  view_saw r v list txn k view of_txn of_key is,
+  omega (arith, some),
+  subst (λ q. IsPutBy r q (get_or list (length list - 1) 0)) by
+      (owner_puts r table owners (get_or list (length list - 1) 0) o at),
+)
+
+-- the view is empty
+pub saw_nothing : (r : Recording) (v : View) (txn k : ℕ) → IsViewOf r v → v.txn ≡ txn → v.key ≡ k → v.span.count ≡ 0
+    → Saw r txn k []
+saw_nothing r v txn k view of_txn of_key none =
+    let n : v.span.first + v.span.count - v.span.first ≡ 0 = omega (arith, none) in
+    let empty : list_of r v.span ≡ [] = ap (λ q. take q (drop v.span.first r.elements.items)) n in
+    view_saw r v [] txn k view of_txn of_key (sym empty)
+
+-- who put a value that was seen has committed
+pub shown_by : (r : Recording) (table : List (Option Owner)) (v : View) (list : List ℕ) (i txn : ℕ) → AreOwners r table
+    → IsViewOf r v → list ≡ list_of r v.span → i < length list
+    → ((o : Owner) × (owner_at table (get_or list i 0) ≡ Some o) × (o.txn ≡ txn))
+    → HasCommitted r txn
+shown_by r table v list i txn owners view is lt (o, at, by) = inr (
+  v.txn,
+  v.key,
+  get_or list i 0,
+  saw_value r v view list is i lt,
+  subst (λ q. IsPutBy r q (get_or list i 0)) by (owner_puts r table owners (get_or list i 0) o at),
+)
 
 -- whom the table has for nobody nobody puts
 pub nobody_puts : (r : Recording) (table : List (Option Owner)) → AreOwners r table → (v : ℕ)

@@ -2,6 +2,8 @@ pub mod Facts
 pub mod Fits
 pub mod Forced
 pub mod Pairs
+pub mod Reasons
+pub mod Refutations
 pub mod Steps
 pub mod Anomalies
 pub mod Cycles

@@ -2,7 +2,7 @@
 use Rattle.std.specs.Prelude.{◌≡◌, ◌≢◌, ℕ, ◌+◌, ◌-◌, ◌<◌, ◌≤◌, List, length, Contains, Option, Some, None, IsTrue, slice_index_or}
 use Rattle.tx_recording.specs.declared.recording.Orders.{Orders}
 use Rattle.tx_recording.specs.declared.recording.Recording.{Recording}
-use Rattle.tx_recording.specs.Explanations.{Explanation, IsWriter, IsNewest, IsSession, IsEarlier, Explains}
+use Rattle.tx_recording.specs.Explanations.{IsSession, IsEarlier}
 use Rattle.tx_history.specs.declared.dependency.Kind.{Kind}
 use Rattle.tx_history.specs.declared.dependency.Kind.TheVariants as kind
 use Rattle.tx_verdict.specs.declared.verdict.Edge.{Edge}
@@ -10,16 +10,17 @@ use Rattle.tx_verdict.specs.declared.verdict.Edge.TheVariants.{Ww, Wr, Rw, So, R
 use Rattle.tx_verdict.specs.declared.verdict.CycleStep.{CycleStep}
 use Rattle.tx_verdict.specs.declared.verdict.Beside.{Beside}
 use Rattle.tx_verdict.specs.declared.verdict.Beside.TheVariants.{Nothing, Processes, Clock}
+use Rattle.tx_verdict.specs.Reasons.{SawOf, HasWritten, IsBehind, HasMissed}
 
--- Both put into k, and u started when t had committed; u saw what t left in k; t started before u
--- committed, which puts into k; a process ran u after t; t had ended when u began.
-abbrev pub IsEdgeOf : Recording → Orders → Explanation → Edge → ℕ → ℕ → Option ℕ → Type 0
-IsEdgeOf r orders x Ww t u (Some k) = IsWriter r x t k × IsWriter r x u k × (x.commit t ≤ x.start u)
-IsEdgeOf r orders x Wr t u (Some k) = IsNewest r x k (x.start u) t
-IsEdgeOf r orders x Rw t u (Some k) = IsWriter r x u k × (x.start t < x.commit u)
-IsEdgeOf r orders x So t u None = IsTrue orders.sessions × IsSession r t u
-IsEdgeOf r orders x Rt t u None = IsTrue orders.strict × IsEarlier r t u
-IsEdgeOf r orders x _ t u _ = ⊥
+-- Both wrote k, and u behind t; u saw k as t left it; u wrote k, and t did not see that; a process
+-- ran u after t; t had ended when u began, which is another one.
+abbrev pub IsEdgeOf : Recording → Orders → Edge → ℕ → ℕ → Option ℕ → Type 0
+IsEdgeOf r orders Ww t u (Some k) = HasWritten r t k × HasWritten r u k × IsBehind r k t u
+IsEdgeOf r orders Wr t u (Some k) = SawOf r u k t
+IsEdgeOf r orders Rw t u (Some k) = HasWritten r u k × HasMissed r k t u
+IsEdgeOf r orders So t u None = IsTrue orders.sessions × IsSession r t u
+IsEdgeOf r orders Rt t u None = IsTrue orders.strict × IsEarlier r t u × (t ≢ u)
+IsEdgeOf r orders _ t u _ = ⊥
 
 -- the edge of a dependency by reads and writes
 abbrev pub IsEdgeFor : Kind → Edge → Type 0
@@ -28,9 +29,9 @@ IsEdgeFor kind.Wr e = e ≡ Wr
 IsEdgeFor kind.Rw e = e ≡ Rw
 IsEdgeFor _ e = ⊥
 
--- the step holds under each explanation
+-- the step is so by the recording
 abbrev pub IsStep : Recording → Orders → CycleStep → Type 0
-IsStep r orders s = (x : Explanation) → Explains r orders x → IsEdgeOf r orders x s.edge s.from s.to s.key
+IsStep r orders s = IsEdgeOf r orders s.edge s.from s.to s.key
 
 abbrev pub AreSteps : Recording → Orders → List CycleStep → Type 0
 AreSteps r orders steps = (s : CycleStep) → Contains steps s → IsStep r orders s
@@ -44,8 +45,17 @@ AreRound steps = (1 ≤ length steps)
     × ((i : ℕ) → i + 1 < length steps → (step_at steps i).to ≡ (step_at steps (i + 1)).from)
     × ((step_at steps (length steps - 1)).to ≡ (step_at steps 0).from)
 
--- which order the steps need
+-- no two neighbours are anti-dependencies, nor are the last and the first
+abbrev pub AreApart : List CycleStep → Type 0
+AreApart steps = ((i : ℕ) → i + 1 < length steps → (step_at steps i).edge ≡ Rw → (step_at steps (i + 1)).edge ≡ Rw → ⊥)
+    × ((step_at steps (length steps - 1)).edge ≡ Rw → (step_at steps 0).edge ≡ Rw → ⊥)
+
+-- one of the steps is of that kind
+abbrev pub HasStep : List CycleStep → Edge → Type 0
+HasStep steps e = (s : CycleStep) × Contains steps s × (s.edge ≡ e)
+
+-- which order the steps need: that of the clock where one of them is by it, else that of processes
 abbrev pub Needs : List CycleStep → Beside → Type 0
-Needs steps Nothing = (s : CycleStep) → Contains steps s → (s.edge ≢ So) × (s.edge ≢ Rt)
-Needs steps Processes = (s : CycleStep) × Contains steps s × (s.edge ≡ So)
-Needs steps Clock = (s : CycleStep) × Contains steps s × (s.edge ≡ Rt)
+Needs steps Nothing = (HasStep steps So → ⊥) × (HasStep steps Rt → ⊥)
+Needs steps Processes = HasStep steps So × (HasStep steps Rt → ⊥)
+Needs steps Clock = HasStep steps Rt

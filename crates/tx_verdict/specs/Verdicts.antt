@@ -1,14 +1,16 @@
 -- What a verdict says of a recording.
-use Rattle.std.specs.Prelude.{ℕ, false, List, slice_index, slice_index_or}
+use Rattle.std.specs.Prelude.{ℕ, ◌≤◌, false, List, length, slice_index, slice_index_or}
 use Rattle.tx_recording.specs.declared.recording.Orders.{Orders}
 use Rattle.tx_recording.specs.declared.recording.Recording.{Recording}
-use Rattle.tx_recording.specs.Explanations.{IsPut, Explanation, Explains}
+use Rattle.tx_recording.specs.Explanations.{Explanation, Explains}
+use Rattle.tx_views.specs.Owners.{IsTwice}
 use Rattle.tx_verdict.specs.declared.verdict.Fact.{Fact}
 use Rattle.tx_verdict.specs.declared.verdict.Timestamps.{Timestamps}
 use Rattle.tx_verdict.specs.declared.verdict.Verdict.{Verdict}
-use Rattle.tx_verdict.specs.declared.verdict.Verdict.TheVariants.{Yes, No, Fact as Found, Open, Twice}
+use Rattle.tx_verdict.specs.declared.verdict.Verdict.TheVariants.{Yes, No, Refuted, Fact as Found, Open, Unknown, Twice}
 use Rattle.tx_verdict.specs.Facts.{IsFact}
 use Rattle.tx_verdict.specs.Cycles.{IsCycleFor}
+use Rattle.tx_verdict.specs.Refutations.{IsRefutation}
 use Rattle.tx_verdict.specs.Undecided.{AreUndecided}
 
 -- these timestamps explain the recording, whatever each left being as it is
@@ -33,11 +35,20 @@ abbrev pub IsWrong : Recording → Fact → Type 0
 IsWrong r fact = IsFact r fact × IsNever r
 
 -- yes: these timestamps explain the recording; no: nothing does, and the cycle is one of what has
--- to be so, or one transaction saw what the fact says; open: two put into each of these keys that
--- had not read it
+-- to be so, or each order that is told is settled by a round, each clause follows, and a last round
+-- closes, or one transaction saw what the fact says; open: two put into each of these keys, of
+-- which there is one, that had not read it; unknown: nothing is said; twice: the first put the
+-- value before the second
+-- did
 abbrev pub IsVerdict : Recording → Orders → Verdict → Type 0
 IsVerdict r orders (Yes t) = AreTimestampsOf r orders t
 IsVerdict r orders (No cycle) = IsCycleFor r orders cycle × IsRefused r orders
+IsVerdict r orders (Refuted x) = IsRefutation r orders x × IsRefused r orders
 IsVerdict r orders (Found fact) = IsFact r fact × IsRefused r orders
-IsVerdict r orders (Open keys) = AreUndecided r keys.items
-IsVerdict r orders (Twice first second value) = (k : ℕ) × (l : ℕ) × IsPut r first k value × IsPut r second l value
+IsVerdict r orders (Open keys) = (1 ≤ length keys.items) × AreUndecided r keys.items
+IsVerdict r orders Unknown = Unit {0}
+IsVerdict r orders (Twice first second value) = (p : ℕ) × (q : ℕ) × IsTwice r record {
+  value = value;
+  first = record { txn = first; place = p };
+  second = record { txn = second; place = q };
+}

@@ -5,7 +5,8 @@ ghost use Rattle.tx_views.specs.declared.view.View.{View};
 ghost use Rattle.tx_views.specs.Views.{IsViewOf};
 ghost use Rattle.tx_views.specs.Owners.{AreOwners};
 ghost use Rattle.tx_history.specs.Records.{IsRecorded, writers_of};
-ghost use Rattle.tx_verdict.specs.Forced.{IsBased, IsLinked, AreWriters, AddsFirst};
+ghost use Rattle.tx_verdict.specs.Reasons.{AddsFirst, IsBased};
+ghost use Rattle.tx_verdict.specs.Forced.{IsLinked, AreWriters};
 
 use crate::seen::{is_by, sees_nothing, sees_writer};
 use crate::versions::{Base, Versions};
@@ -90,9 +91,9 @@ fn is_viewed(
     sees_writer(recording, owners, view, writers[i], key, writers[i - 1])
 }
 
-// Whether the writer of a version is known to have seen the one before it, or nothing before the
-// first.
-fn is_based(
+/// Whether the writer of a version is known to have seen the one before it, or nothing before the
+/// first.
+pub(crate) fn is_based(
     alloc: Global,
     recording: &Recording,
     owners: &[Option<Owner>],
@@ -134,8 +135,8 @@ fn is_based(
     }
 }
 
-// Whether none of the first so many is this one.
-fn is_other(writers: &[u32], count: usize, txn: u32) -> bool
+/// Whether none of the first so many is this one.
+pub(crate) fn is_other(writers: &[u32], count: usize, txn: u32) -> bool
     requires { count ≤ length writers.now }
     ensures { IsTrue result → (i : ℕ) → i < count → slice_index writers.now i ≢ txn }
 {
@@ -184,7 +185,7 @@ pub(crate) fn is_chain(
     requires history { IsRecorded versions.now.recorded }
     requires writers { AreWriters recording.now key (writers_of versions.now.recorded chain) }
     ensures { IfOk result (λ is. IsTrue is → (i : ℕ) → i + 1 < length (writers_of versions.now.recorded chain)
-        → IsLinked recording.now (writers_of versions.now.recorded chain) i) }
+        → IsLinked recording.now key (writers_of versions.now.recorded chain) i) }
 {
     let writers = versions.recorded.writers_of(chain as usize);
     let mut known = true;

@@ -1,5 +1,5 @@
 //! Timestamps and cycles of versions, as evidence of a recording.
-ghost use Rattle.std.specs.Prelude.{ℕ, IfOk, IfSome, slice_index};
+ghost use Rattle.std.specs.Prelude.{IfOk, IfSome, slice_index};
 ghost use Rattle.tx_recording.specs.Recordings.{IsRecording};
 ghost use Rattle.tx_views.specs.Views.{AreViews};
 ghost use Rattle.tx_views.specs.Owners.{AreOwners};
@@ -12,7 +12,7 @@ ghost use Rattle.tx_verdict.specs.Verdicts.{IsRefused, AreTimestampsOf};
 use crate::anomaly::anomaly_of;
 use crate::fit::is_fit;
 use crate::forced::is_forced;
-use crate::steps::{beside_of, is_round, steps_of};
+use crate::steps::{are_apart, beside_of, is_round, steps_of};
 use crate::verdict::{Cycle, Timestamps};
 use crate::versions::Versions;
 use std::alloc::{AllocError, Global};
@@ -59,7 +59,7 @@ pub fn timestamps(
     }))
 }
 
-/// The cycle of these nodes, if the versions hold under each explanation.
+/// The cycle of these nodes, if the versions are so by the recording.
 pub fn cycle_of(
     alloc: Global,
     recording: &Recording,
@@ -74,16 +74,18 @@ pub fn cycle_of(
     requires views { AreViews recording.now views.now }
     requires history { IsRecorded versions.now.recorded }
     requires cycle { IsCycleOf (history_of versions.now.recorded) nodes.now }
-    requires refused { (start commit : ℕ → ℕ) → IsAssignment (history_of versions.now.recorded) start commit → ⊥ }
     ensures refused { IfOk result (λ found. IfSome found (λ cycle. IsRefused recording.now orders)) }
     ensures cycle { IfOk result (λ found. IfSome found (IsCycleFor recording.now orders)) }
 {
-    if !is_forced(alloc, recording, owners, views, orders, versions)? {
+    if !is_forced(alloc, recording, owners, views, versions)? {
         return Ok(None);
     }
     let found = dependencies(alloc, &versions.recorded, nodes)?;
     let steps = steps_of(alloc, recording, versions, orders, found.as_slice())?;
     if !is_round(steps.as_slice()) {
+        return Ok(None);
+    }
+    if !are_apart(steps.as_slice()) {
         return Ok(None);
     }
     let beside = beside_of(steps.as_slice());

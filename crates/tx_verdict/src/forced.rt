@@ -1,26 +1,22 @@
 //! Whether what versions stand on holds under each explanation.
 ghost use Rattle.std.specs.Prelude.{ℕ, ◌+◌, ◌-◌, ◌<◌, Contains, Some, IfOk, IsTrue};
-ghost use Rattle.tx_recording.specs.declared.recording.Orders.{Orders};
 ghost use Rattle.tx_recording.specs.Recordings.{IsRecording, ops_of};
-ghost use Rattle.tx_recording.specs.Explanations.{Explanation, Explains};
 ghost use Rattle.tx_views.specs.declared.view.View.{View};
 ghost use Rattle.tx_views.specs.Views.{IsViewOf};
 ghost use Rattle.tx_views.specs.Owners.{AreOwners};
 ghost use Rattle.tx_views.specs.declared.owner.Owner.{Owner};
 ghost use Rattle.tx_history.specs.declared.recorded.Read.{Read};
 ghost use Rattle.tx_history.specs.Records.{IsRecorded, history_of, writers_of};
-ghost use Rattle.tx_history.specs.declared.recorded.After.{After};
-ghost use Rattle.tx_verdict.specs.Pairs.{IsPair};
+ghost use Rattle.tx_verdict.specs.Reasons.{HasCommitted};
 ghost use Rattle.tx_verdict.specs.Forced.{AreForced, AreKnown, AreWriters, IsChain, IsReadForced, key_of};
 
 use crate::chain::is_chain;
 use crate::fit::puts;
-use crate::pairs::are_pairs;
 use crate::seen::{is_by, sees_nothing, sees_writer};
 use crate::versions::{Shown, Versions};
 use std::alloc::{AllocError, Global};
 use tx_history::Read;
-use tx_recording::{Orders, Recording};
+use tx_recording::Recording;
 use tx_views::{Owner, View};
 
 // Whether the writers of a chain put into its key and are known to have committed.
@@ -90,8 +86,7 @@ fn is_shown(
 ) -> bool
     requires owners { AreOwners recording.now owners.now }
     requires views { (v : View) → Contains views.now v → IsViewOf recording.now v }
-    ensures { IsTrue result → (orders : Orders) (x : Explanation) → Explains recording.now orders x
-        → IsTrue (x.committed txn) }
+    ensures { IsTrue result → HasCommitted recording.now txn }
 {
     if shown.view as usize >= views.len() {
         return false;
@@ -103,8 +98,8 @@ fn is_shown(
     is_by(owners, list[shown.place as usize], txn)
 }
 
-// Whether a transaction is known to have committed.
-fn is_known(
+/// Whether a transaction is known to have committed.
+pub(crate) fn is_known(
     recording: &Recording,
     owners: &[Option<Owner>],
     views: &[View],
@@ -113,8 +108,7 @@ fn is_known(
 ) -> bool
     requires owners { AreOwners recording.now owners.now }
     requires views { (v : View) → Contains views.now v → IsViewOf recording.now v }
-    ensures { IsTrue result → (orders : Orders) (x : Explanation) → Explains recording.now orders x
-        → IsTrue (x.committed txn) }
+    ensures { IsTrue result → HasCommitted recording.now txn }
 {
     if txn as usize >= recording.transactions.len() {
         return false;
@@ -214,24 +208,20 @@ fn are_reads(
     true
 }
 
-/// Whether the versions and what was read of them hold under each explanation.
+/// Whether the versions and what was read of them are so by the recording.
 pub(crate) fn is_forced(
     alloc: Global,
     recording: &Recording,
     owners: &[Option<Owner>],
     views: &[View],
-    orders: Orders,
     versions: &Versions,
 ) -> Result<bool, AllocError>
     requires recording { IsRecording recording.now }
     requires owners { AreOwners recording.now owners.now }
     requires views { (v : View) → Contains views.now v → IsViewOf recording.now v }
     requires history { IsRecorded versions.now.recorded }
-    ensures forced { IfOk result (λ are. IsTrue are
-        → AreForced recording.now orders (history_of versions.now.recorded) (key_of versions.now)) }
-    ensures known { IfOk result (λ are. IsTrue are → AreKnown recording.now versions.now) }
-    ensures pairs { IfOk result (λ are. IsTrue are → (p : After) → Contains versions.now.recorded.after.items p
-        → IsPair recording.now orders versions.now p) }
+    ensures { IfOk result (λ are. IsTrue are
+        → AreForced recording.now (history_of versions.now.recorded) (key_of versions.now)) }
 {
     if !are_known(recording, owners, views, versions) {
         return Ok(false);
@@ -239,8 +229,5 @@ pub(crate) fn is_forced(
     if !are_chains(alloc, recording, owners, views, versions)? {
         return Ok(false);
     }
-    if !are_reads(recording, owners, views, versions) {
-        return Ok(false);
-    }
-    Ok(are_pairs(recording, versions, orders))
+    Ok(are_reads(recording, owners, views, versions))
 }

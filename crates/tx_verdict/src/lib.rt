@@ -1,6 +1,7 @@
 //! What is evidence of a verdict on a recording. Timestamps of versions are held against the
-//! recording; what a cycle of versions stands on is looked at, by views that hold under each
-//! explanation; and some reads nothing explains.
+//! recording; each step of a cycle says what was read or put, and such steps refuse each
+//! explanation by themselves; so do orders of open keys, each settled by a round, and a last round;
+//! and some reads nothing explains.
 #![tactic(auto)]
 
 mod anomaly;
@@ -10,10 +11,14 @@ mod evidence;
 mod facts;
 mod fit;
 mod forced;
+mod ground;
+mod lemma;
 mod lists;
 mod pairs;
+mod refutation;
 mod seen;
 mod steps;
+mod stretch;
 mod undecided;
 mod verdict;
 mod versions;
@@ -22,7 +27,10 @@ pub use anomaly::Anomaly;
 pub use evidence::{cycle_of, timestamps};
 pub use facts::{internal, wrong_update, wrong_views};
 pub use fit::value_of;
+pub use ground::{Behind, Ground};
 pub use lists::{are_lists, wrong_lists};
+pub use refutation::{Hint, Lemma, Order, Refutation, Settled, is_refutation};
+pub use stretch::Stretch;
 pub use undecided::is_undecided;
 pub use verdict::{Beside, Cycle, CycleStep, Edge, Fact, Rule, Timestamps, Verdict};
 pub use versions::{Base, Home, Lives, Lost, NO_SPAN, Shown, Versions};

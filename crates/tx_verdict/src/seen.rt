@@ -1,10 +1,9 @@
 //! What a view says of who put into its key.
-ghost use Rattle.std.specs.Prelude.{◌≡◌, ℕ, ◌<◌, Some, IfSome, IfNone, IsTrue};
-ghost use Rattle.tx_recording.specs.declared.recording.Orders.{Orders};
-ghost use Rattle.tx_recording.specs.Explanations.{Explanation, Explains, IsWriter, IsNewest};
-ghost use Rattle.tx_views.specs.Views.{IsViewOf};
+ghost use Rattle.std.specs.Prelude.{◌≡◌, [], Some, IfSome, IfNone, IsTrue};
+ghost use Rattle.tx_views.specs.Views.{IsViewOf, Saw};
 ghost use Rattle.tx_views.specs.Owners.{AreOwners, owner_at};
 ghost use Rattle.tx_views.specs.declared.owner.Owner.{Owner};
+ghost use Rattle.tx_verdict.specs.Reasons.{SawOf};
 
 use tx_recording::Recording;
 use tx_views::{Owner, View};
@@ -41,8 +40,7 @@ pub(crate) fn sees_writer(
 ) -> bool
     requires owners { AreOwners recording.now owners.now }
     requires view { IsViewOf recording.now view }
-    ensures { IsTrue result → (orders : Orders) (x : Explanation) → Explains recording.now orders x
-        → IsNewest recording.now x key (x.start txn) writer }
+    ensures { IsTrue result → SawOf recording.now txn key writer }
 {
     if view.txn != txn {
         return false;
@@ -61,8 +59,7 @@ pub(crate) fn sees_writer(
 /// Whether a view is of a key that holds nothing.
 pub(crate) fn sees_nothing(recording: &Recording, view: View, txn: u32, key: u32) -> bool
     requires view { IsViewOf recording.now view }
-    ensures { IsTrue result → (orders : Orders) (x : Explanation) → Explains recording.now orders x
-        → (w : ℕ) → IsWriter recording.now x w key → x.start txn < x.commit w }
+    ensures { IsTrue result → Saw recording.now txn key [] }
 {
     if view.txn != txn {
         return false;

@@ -5,9 +5,9 @@ ghost use Rattle.tx_history.specs.declared.dependency.Dependency.{Dependency};
 ghost use Rattle.tx_history.specs.Dependencies.{Depends};
 ghost use Rattle.tx_history.specs.Records.{history_of};
 ghost use Rattle.tx_verdict.specs.declared.verdict.CycleStep.{CycleStep};
-ghost use Rattle.tx_verdict.specs.declared.verdict.Edge.TheVariants.{So, Rt};
+ghost use Rattle.tx_verdict.specs.declared.verdict.Edge.TheVariants.{Rw, So, Rt};
 ghost use Rattle.tx_verdict.specs.Forced.{AreForced, key_of};
-ghost use Rattle.tx_verdict.specs.Steps.{IsEdgeFor, IsStep, AreSteps, AreRound, Needs};
+ghost use Rattle.tx_verdict.specs.Steps.{IsEdgeFor, IsStep, AreSteps, AreRound, AreApart, HasStep, Needs};
 
 use crate::pairs::{is_earlier, is_session};
 use crate::verdict::{Beside, CycleStep, Edge};
@@ -35,7 +35,7 @@ fn step_of(
     orders: Orders,
     dependency: Dependency,
 ) -> Option<CycleStep>
-    requires forced { AreForced recording.now orders (history_of versions.now.recorded) (key_of versions.now) }
+    requires forced { AreForced recording.now (history_of versions.now.recorded) (key_of versions.now) }
     requires holds { Depends (history_of versions.now.recorded) dependency.kind dependency.from
         dependency.to dependency.key dependency.version }
     ensures { IfSome result (IsStep recording.now orders) }
@@ -52,8 +52,13 @@ fn step_of(
     })
 }
 
-// The step of two that a process ran one after the other.
-fn step_in_process(recording: &Recording, orders: Orders, from: u32, to: u32) -> Option<CycleStep>
+/// The step of two that a process ran one after the other.
+pub(crate) fn step_in_process(
+    recording: &Recording,
+    orders: Orders,
+    from: u32,
+    to: u32,
+) -> Option<CycleStep>
     ensures { IfSome result (IsStep recording.now orders) }
 {
     if !orders.sessions {
@@ -70,11 +75,19 @@ fn step_in_process(recording: &Recording, orders: Orders, from: u32, to: u32) ->
     })
 }
 
-// The step of two of which the first had ended when the second began.
-fn step_in_time(recording: &Recording, orders: Orders, from: u32, to: u32) -> Option<CycleStep>
+/// The step of two of which the first had ended when the second began.
+pub(crate) fn step_in_time(
+    recording: &Recording,
+    orders: Orders,
+    from: u32,
+    to: u32,
+) -> Option<CycleStep>
     ensures { IfSome result (IsStep recording.now orders) }
 {
     if !orders.strict {
+        return None;
+    }
+    if from == to {
         return None;
     }
     if !is_earlier(recording, from, to) {
@@ -143,7 +156,7 @@ fn add_step(
     dependency: Dependency,
     began: Option<u32>,
 ) -> Result<Option<u32>, AllocError>
-    requires forced { AreForced recording.now orders (history_of versions.now.recorded) (key_of versions.now) }
+    requires forced { AreForced recording.now (history_of versions.now.recorded) (key_of versions.now) }
     requires holds { Depends (history_of versions.now.recorded) dependency.kind dependency.from
         dependency.to dependency.key dependency.version }
     requires steps { AreSteps recording.now orders steps.old.items }
@@ -190,7 +203,7 @@ pub(crate) fn steps_of(
     orders: Orders,
     found: &[Dependency],
 ) -> Result<Vec<CycleStep>, AllocError>
-    requires forced { AreForced recording.now orders (history_of versions.now.recorded) (key_of versions.now) }
+    requires forced { AreForced recording.now (history_of versions.now.recorded) (key_of versions.now) }
     requires hold { (d : Dependency) → Contains found.now d
         → Depends (history_of versions.now.recorded) d.kind d.from d.to d.key d.version }
     ensures { IfOk result (λ steps. AreSteps recording.now orders steps.items) }
@@ -221,10 +234,42 @@ pub(crate) fn is_round(steps: &[CycleStep]) -> bool
     steps[count - 1].to == steps[0].from
 }
 
+// Whether two steps are anti-dependencies.
+fn are_skews(one: CycleStep, other: CycleStep) -> bool
+    ensures { result ≡ false → one.edge ≡ Rw → other.edge ≡ Rw → ⊥ }
+{
+    match one.edge {
+        Edge::Rw => match other.edge {
+            Edge::Rw => true,
+            Edge::Ww | Edge::Wr | Edge::So | Edge::Rt => false,
+        },
+        Edge::Ww | Edge::Wr | Edge::So | Edge::Rt => false,
+    }
+}
+
+/// Whether no two steps one after the other are anti-dependencies, nor the last and the first.
+pub(crate) fn are_apart(steps: &[CycleStep]) -> bool
+    ensures { IsTrue result → AreApart steps.now }
+{
+    let count = steps.len();
+    if count == 0 {
+        return false;
+    }
+    for i in 1..count {
+        if are_skews(steps[i - 1], steps[i]) {
+            return false;
+        }
+    }
+    if are_skews(steps[count - 1], steps[0]) {
+        return false;
+    }
+    true
+}
+
 // Whether one of the steps is by the clock.
 fn has_clock(steps: &[CycleStep]) -> bool
-    ensures yes { IsTrue result → (s : CycleStep) × Contains steps.now s × (s.edge ≡ Rt) }
-    ensures no { result ≡ false → (s : CycleStep) → Contains steps.now s → s.edge ≢ Rt }
+    ensures yes { IsTrue result → HasStep steps.now Rt }
+    ensures no { result ≡ false → HasStep steps.now Rt → ⊥ }
 {
     for i in 0..steps.len() {
         match steps[i].edge {
@@ -237,8 +282,8 @@ fn has_clock(steps: &[CycleStep]) -> bool
 
 // Whether one of the steps is by a process.
 fn has_process(steps: &[CycleStep]) -> bool
-    ensures yes { IsTrue result → (s : CycleStep) × Contains steps.now s × (s.edge ≡ So) }
-    ensures no { result ≡ false → (s : CycleStep) → Contains steps.now s → s.edge ≢ So }
+    ensures yes { IsTrue result → HasStep steps.now So }
+    ensures no { result ≡ false → HasStep steps.now So → ⊥ }
 {
     for i in 0..steps.len() {
         match steps[i].edge {

@@ -1,6 +1,7 @@
 //! The verdict on a recording.
 
 use crate::anomaly::Anomaly;
+use crate::refutation::Refutation;
 
 /// When each transaction starts and commits, and which committed, by their place in the recording.
 #[derive(Debug, Drop)]
@@ -91,10 +92,14 @@ pub enum Verdict {
     Yes(Timestamps),
     /// It is not, by a cycle.
     No(Cycle),
+    /// It is not, in no order of what was put into some keys.
+    Refuted(Refutation),
     /// It is not, by what one transaction read.
     Fact(Fact),
-    /// Neither was found: the order of what was put into these keys is not known.
+    /// Neither was found: the order of what was put into these keys is not known, of one at least.
     Open(Vec<u32>),
+    /// Neither was found, and no such key.
+    Unknown,
     /// It is no recording: these two transactions put this value.
     Twice(u32, u32, u32),
 }

@@ -86,10 +86,6 @@ pub early_more : (t place : ℕ) (o : Owner) → IsEarly t place o → IsEarly t
 early_more t place o (inl lt) = inl lt
 early_more t place o (inr (same, lt)) = inr (same, omega (arith, lt))
 
-pub not_itself : (t place : ℕ) (o : Owner) → IsEarly t place o → o ≡ record { txn = t; place = place } → ⊥
-not_itself t place o (inl lt) e = (let q = ap (λ (z : Owner). z.txn) e in omega (arith, lt, q))
-not_itself t place o (inr (same, lt)) e = (let q = ap (λ (z : Owner). z.place) e in omega (arith, lt, q))
-
 pub early_end : (t place : ℕ) (o : Owner) → IsEarly t place o → o.txn < t + 1
 early_end t place o (inl lt) = omega (arith, lt)
 early_end t place o (inr (same, lt)) = omega (arith, same)

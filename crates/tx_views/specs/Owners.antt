@@ -1,5 +1,5 @@
 -- Who put each value.
-use Rattle.std.specs.Prelude.{◌≡◌, ◌≢◌, ◌⊎◌, ℕ, ◌<◌, List, length, Option, Some, None, slice_index_or}
+use Rattle.std.specs.Prelude.{◌≡◌, ◌⊎◌, ℕ, ◌<◌, List, length, Option, Some, None, slice_index_or}
 use Rattle.tx_recording.specs.declared.recording.Recording.{Recording}
 use Rattle.tx_recording.specs.Recordings.{txns_of, ops_of}
 use Rattle.tx_recording.specs.Explanations.{Puts, op_at}
@@ -26,9 +26,14 @@ pub record AreOwners (r : Recording) (table : List (Option Owner)) : Type 0 wher
   pub all : (t : ℕ) → t < txns_of r → Notes r table t (length (ops_of r t))
   pub only : (v : ℕ) (o : Owner) → owner_at table v ≡ Some o → IsOwnerOf r v o
 
--- both put the value, and they are not one operation
+-- before the operation of t at place
+abbrev pub IsEarly : ℕ → ℕ → Owner → Type 0
+IsEarly t place o = (o.txn < t) ⊎ ((o.txn ≡ t) × (o.place < place))
+
+-- both put the value, the first before the second
 abbrev pub IsTwice : Recording → Twice → Type 0
-IsTwice r t = IsOwnerOf r t.value t.first × IsOwnerOf r t.value t.second × (t.first ≢ t.second)
+IsTwice r t = IsOwnerOf r t.value t.first × IsOwnerOf r t.value t.second
+    × IsEarly t.second.txn t.second.place t.first
 
 abbrev pub IsOwned : Recording → Owned → Type 0
 IsOwned r (Once table) = AreOwners r table.items
@@ -37,7 +42,3 @@ IsOwned r (PutTwice t) = IsTwice r t
 -- what the table has it keeps
 abbrev pub KeepsOwners : List (Option Owner) → List (Option Owner) → Type 0
 KeepsOwners old new = (v : ℕ) (o : Owner) → owner_at old v ≡ Some o → owner_at new v ≡ Some o
-
--- before the operation of t at place
-abbrev pub IsEarly : ℕ → ℕ → Owner → Type 0
-IsEarly t place o = (o.txn < t) ⊎ ((o.txn ≡ t) × (o.place < place))

@@ -23,7 +23,7 @@ use Rattle.tx_workload.specs.declared.reply.LineAnswer.TheVariants.{Plain, Ended
 use Rattle.tx_workload.specs.declared.reply.LineReply.{LineReply}
 use Rattle.tx_workload.specs.Faults.{IsFaultless, NoneBefore, TakesLine, TellsFault, fault_of, refused_as}
 use Rattle.tx_workload.specs.Outcomes.{start_of}
-use Rattle.tx_transfer.specs.Sources.{pair_of, pair_in, pair_said, HasLine, HasPair}
+use Rattle.tx_transfer.specs.Sources.{pair_of, pair_in, pair_said, HasLine, HasPair, HasTransfer, transfer_in, transfer_of}
 use Rattle.tx_workload.specs.Pairs.{SaysPair, TellsPair}
 
 -- ---- as the text is read
@@ -183,6 +183,14 @@ pub pair_made : (source : Option (List ℕ)) (number : ℕ) (line : List ℕ) (d
 pair_made None number line d step has is said = tt
 pair_made (Some text) number line d step has is said =
     ap (option_map (pair_said number)) has ∙ ap Some (ap pair_in is ∙ ap (option_and_then pair_of) (sym said))
+
+pub transfer_made : (source : Option (List ℕ)) (number : ℕ) (line : List ℕ) (d : Data) (step : Step (Bor Text))
+    → HasLine source number line → data_said number line ≡ Ok d → option_map asked (Some step) ≡ step_in Run d
+    → HasTransfer source number (transfer_of (asked step))
+transfer_made None number line d step has is said = tt
+transfer_made (Some text) number line d step has is said =
+    ap (option_map (λ (l : List ℕ). transfer_in (data_said number l))) has
+    ∙ ap Some (ap transfer_in is ∙ ap (option_and_then transfer_of) (sym said))
 
 -- ---- answers
 

@@ -5,6 +5,7 @@ pub mod Lines
 pub mod Logs
 pub mod Outcomes
 pub mod Pairs
+pub mod PlayedSeeds
 pub mod Readers
 pub mod ScriptLines
 pub mod Replies

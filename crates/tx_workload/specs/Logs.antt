@@ -6,6 +6,8 @@ use Rattle.tx_core.specs.declared.event.Outcome.{Outcome}
 use Rattle.tx_core.specs.declared.event.Event.TheVariants.{Answered}
 use Rattle.tx_core.specs.Histories.{History, Among, Begins, drawer}
 use Rattle.tx_journal.specs.Known.{Known}
+use Rattle.tx_transaction.specs.Sessions.{finish_of}
+use Rattle.tx_client.specs.Calls.{HasHeard, Records, Seated}
 use Rattle.tx_workload.specs.declared.reply.LineAnswer.{LineAnswer}
 use Rattle.tx_workload.specs.declared.reply.LineAnswer.TheVariants.{Plain, Ended}
 use Rattle.tx_workload.specs.declared.reply.LineReply.{LineReply}
@@ -60,3 +62,10 @@ pub record CanTell (l : Logged) (start : ℕ) (o : Outcome) (keys : Option (Key 
   pub knows : Begins l.told k.events
   pub answered : IsAnswered k.events l.seat start o keys
   pub fresh : TellsNone start l.replies
+
+-- a session heard what a log was told, and then its transaction was answered so: its seat is free
+pub record HasFinished (bounds : List Key) (old : Seated) (told : History) (o : Outcome) (new : Known) : Type 0 where
+  pub mid : Known
+  pub heard : HasHeard bounds old.seat told mid
+  pub is : finish_of old.state ≡ Some o
+  pub records : Records bounds mid (Answered old.state.start o) new

@@ -1,7 +1,10 @@
 //! What the lines of one session were answered, with what its session had seen.
-ghost use Rattle.std.specs.Prelude.{◌≡◌, ◌∷◌, ◌++◌, All, [], if◌then◌else◌, true, false, OnOk, OnErr};
+ghost use Rattle.std.specs.Prelude.{◌≡◌, ◌∷◌, ◌++◌, All, [], None, if◌then◌else◌, true, false, IfErr, IfOk, OnOk, OnErr};
+ghost use Rattle.tx_client.specs.Calls.{HasHeard};
+ghost use Rattle.tx_transaction.specs.Sessions.{finish_of};
+ghost use Rattle.tx_core.specs.declared.event.Outcome.{Outcome};
 ghost use Rattle.tx_core.specs.Histories.{Begins};
-ghost use Rattle.tx_workload.specs.Logs.{CanTell, IsAnswered, KeepsAnswer, KeepsOutcome, TellsBy, TellsNone, answer_to};
+ghost use Rattle.tx_workload.specs.Logs.{CanTell, HasFinished, IsAnswered, KeepsAnswer, KeepsOutcome, TellsBy, TellsNone, answer_to};
 ghost use Rattle.tx_workload.specs.declared.reply.LineAnswer.TheVariants.{Plain, Ended};
 ghost use Rattle.tx_transfer.specs.Sources.{HasPair};
 ghost use Rattle.tx_workload.specs.Pairs.{TellsPair};
@@ -119,6 +122,7 @@ impl<J: JournalId, L: Source> RunLog<J, L> {
         requires says { SaysStep L.text number }
         ensures same { self.new.seat ≡ self.old.seat }
         ensures kept { KeepsAnswer self.old number (Ended start outcome keys) self.new }
+        ensures back { seat.new ≡ seat.old }
     {
         self.learn(seat);
         self.keep_outcome(number, start, &outcome, keys);
@@ -131,6 +135,8 @@ impl<J: JournalId, L: Source> RunLog<J, L> {
             × (self.new.lost ≡ self.old.lost) }
         ensures knows { Begins session.old.seat.events self.new.told }
         ensures state { session.new.state ≡ session.old.state }
+        ensures heard { HasHeard J.bounds session.old.seat self.old.told session.new.seat }
+        ensures told { self.new.told ≡ session.new.seat.events }
     {
         session.learn_told(by.copy(&mut self.told));
         session.show();
@@ -154,6 +160,10 @@ impl<J: JournalId, L: Source> RunLog<J, L> {
         ensures same { self.new.seat ≡ self.old.seat }
         ensures kept { OnOk result (KeepsOutcome self.old number keys self.new) }
         ensures none { OnErr result (self.new ≡ self.old) }
+        ensures finished { IfOk result (λ seat. (o : Outcome) × HasFinished J.bounds session self.old.told o seat
+            × KeepsAnswer self.old number (Ended session.state.start o keys) self.new) }
+        ensures open_yet { IfErr result (λ s. (finish_of session.state ≡ None) × (s.state ≡ session.state)
+            × HasHeard J.bounds session.seat self.old.told s.seat) }
     {
         session.learn_told(by.copy(&mut self.told));
         session.show();

@@ -11,7 +11,7 @@ ghost use Rattle.tx_workload.specs.LineNumbers.{number_of, numbers_in};
 ghost use Rattle.tx_workload.specs.ScriptLines.{KeepsText, name_in, step_of};
 ghost use Rattle.tx_workload.specs.Readers.{HasSession, HasSorted};
 ghost use Rattle.tx_workload.specs.Steps.{SaysStep};
-ghost use Rattle.tx_transfer.specs.Sources.{HasLine, HasPair, pair_of};
+ghost use Rattle.tx_transfer.specs.Sources.{HasLine, HasTransfer, transfer_of};
 
 use crate::session_line::{ScriptLine, SessionLine};
 use std::alloc::{AllocError, Global};
@@ -64,7 +64,7 @@ fn session_line<L: Source>(
     requires line { HasLine L.text number text.now }
     requires says { SaysStep L.text number }
     requires apart { IsApart (asked step) }
-    requires pair { HasPair L.text number (pair_of (asked step)) }
+    requires orders { HasTransfer L.text number (transfer_of (asked step)) }
     ensures { IfOk result (λ line. number_of line ≡ number) }
 {
     if let Step::Transfer(name, transfer) = step {
@@ -201,7 +201,7 @@ impl<L: Source> ScriptReader<L> {
         requires within { IsWithin self.old.script.bounds.items (vec_len self.old.script.sessions) }
         requires line { HasLine L.text number text.now }
         requires apart { IsApart (asked step) }
-        requires pair { HasPair L.text number (pair_of (asked step)) }
+        requires orders { HasTransfer L.text number (transfer_of (asked step)) }
         requires some { 0 < number }
         requires said { step_of number text.now ≡ Some (asked step) }
         requires sorted { HasSorted L.text number self.old }

@@ -3,6 +3,7 @@ ghost use Rattle.std.specs.Prelude.{◌≡◌, ◌++◌, map, All, Ok, IfOk, OnO
 ghost use Rattle.tx_core.specs.Histories.{Begins};
 ghost use Rattle.tx_workload.specs.Answers.{IsReply, numbers_of};
 ghost use Rattle.tx_workload.specs.Logs.{answer_to};
+ghost use Rattle.tx_workload.specs.PlayedSeeds.{AddsSeeds, PlaysSeed};
 ghost use Rattle.tx_workload.specs.Tells.{TellsLine};
 ghost use Rattle.tx_workload.specs.declared.reply.LineAnswer.TheVariants.{Plain};
 
@@ -22,6 +23,7 @@ fn play<J: JournalId, L: Source, F: Families + Drop, R: Wait + Drop>(
     script_line: &ScriptLine<L>,
 ) -> (Seat<J>, PlainReply)
     ensures tells { TellsLine L.text J.bounds result.0.events (answer_to script_line.now.number (Plain (Ok result.1))) }
+    ensures plays { PlaysSeed J.bounds L.text seat (answer_to script_line.now.number (Plain (Ok result.1))) result.0 }
     ensures knows { Begins seat.events result.0.events }
 {
     let mut parts = Parts::new();
@@ -49,6 +51,8 @@ pub fn play_seeds<J: JournalId, L: Source, F: Families + Drop, R: Wait + Drop>(
     requires quiet { All (λ s. IsReply s.answer) replies.old.items }
     requires tells { All (TellsLine L.text J.bounds seat.events) replies.old.items }
     ensures tells { IfOk result (λ seat. All (TellsLine L.text J.bounds seat.events) replies.new.items) }
+    ensures plays { IfOk result
+        (λ after. AddsSeeds J.bounds L.text seat replies.old.items after replies.new.items) }
     ensures quiet { OnOk result (All (λ s. IsReply s.answer) replies.new.items) }
     ensures each { OnOk result
         (numbers_of replies.new.items ≡ numbers_of replies.old.items ++ map (λ line. line.number) seeds.now) }

@@ -66,7 +66,6 @@ module _ (w : View) (d : Declaration) (none : w.declared d.start ≡ None) where
           upto = x.upto;
           at = x.at;
           mode = λ y at. x.mode y (sym (kept_set t (does_declared w.declared t k by.lock.mutation x.does)) ∙ at);
-          after = λ y at. x.after y (sym (kept_set t (does_declared w.declared t k by.lock.mutation x.does)) ∙ at);
         });
         keys = λ k. record {
           lock = λ lock e. locked k lock ((i.keys k).lock lock e);

@@ -39,7 +39,6 @@ inv_draw w seat n i lt =
             at =
                 omega (arith, x.at, lt);
             mode = x.mode;
-            after = x.after;
           });
       keys = i.keys;
       commits = λ t c e. (let x = i.commits t c e in

@@ -17,7 +17,7 @@ use Rattle.tx_core.specs.declared.event.Declaration.{Declaration}
 use Rattle.tx_core.specs.Histories.{set_of, is_first}
 use Rattle.tx_core.specs.Decisions.{Acceptance, Puts, first_accepted, accepted_by}
 use Rattle.tx_core.proofs.Basics.{nat_test, nat_same, key_same, key_true, cond_true, cond_false, some_same, some_of, is_some, none_is}
-use Rattle.tx_core.proofs.view.View.{View, IsAccepted, IsLock, IsAlone, OnCells, Inv, Does, Inserts, HasNoValue, IsPrimary, IsCommitted, bound, Held, one_first, does_declared, does_within, one_does, bound_two_phase, bound_async, never_accepted}
+use Rattle.tx_core.proofs.view.View.{View, IsAccepted, IsLock, IsAlone, OnCells, Inv, Does, Inserts, HasNoValue, IsPrimary, IsCommitted, bound, LiesBelow, Held, one_first, does_declared, does_within, one_does, bound_two_phase, bound_async, never_accepted}
 use Rattle.tx_core.proofs.changes.Keyed.{at_cells}
 
 -- the acceptance of a lock that is put now
@@ -94,9 +94,8 @@ seen_above write low (suc r) =
         ]
 
 -- The key is free and was never accepted for the transaction, which is not committed; no commit on
--- the key and no collection lies above its start; an async minimum lies above each read; the bound
--- lies above the number that was drawn for the declaration. Of what it inserts there is no value at
--- its start, where it was read.
+-- the key and no collection lies above its start; an async minimum lies above each read. Of what it
+-- inserts there is no value at its start, where it was read.
 pub record MayLock (w : View) (k : Key) (lock : Lock) : Type 0 where
   pub free : (w.cells k).lock ≡ None
   pub new : w.accepted lock.start k ≡ None
@@ -107,7 +106,6 @@ pub record MayLock (w : View) (k : Key) (lock : Lock) : Type 0 where
   pub upto : bound (accepting w lock) ≤ w.last + 1
   pub after_reads : lock.mode ≡ Async → w.floor k < lock.min
   pub mode : (d : Declaration) → w.declared lock.start ≡ Some d → d.mode ≡ TwoPhase → lock.mode ≡ TwoPhase
-  pub after : (d : Declaration) → w.declared lock.start ≡ Some d → d.drawn < bound (accepting w lock)
   pub unseen : (v : Value) → Inserts w.declared lock.start k v → HasNoValue w.declared w.decided k lock.start
   pub checked : (v : Value) → Inserts w.declared lock.start k v → IsRead w.reads k lock.start
   pub uncommitted : (c : ℕ) → IsCommitted w.decided lock.start c → ⊥
@@ -300,7 +298,6 @@ module _ (w : View) (k : Key) (lock : Lock) (i : Inv w) (may : MayLock w k lock)
           upto = may.upto;
           at = omega arith;
           mode = may.mode;
-          after = may.after;
         } i.acceptances;
         keys = λ q. at_cells w k q (with_lock (w.cells k) (Some lock))
             (λ x. OnCells w.declared w.decided (locking w k lock).accepted (locking w k lock).shown x (w.collected x))
@@ -321,9 +318,10 @@ module _ (w : View) (k : Key) (lock : Lock) (i : Inv w) (may : MayLock w k lock)
             i.checks;
         unread = at_accepted (λ t q by. w.decided t ≡ Open → (m : Mutation) → Does w.declared t q m → IsVisible m
             → (r : ℕ) → IsRead w.reads q r
-            → (r < bound by) ⊎ (r < (locking w k lock).shown t)) (λ o m does v r read. inl (new_unread r read))
+            → LiesBelow (locking w k lock).accepted (locking w k lock).shown t r)
+            (λ o m does v r read. inl (k, accepting w lock, now_accepted, new_unread r read))
             (λ t q by e o m does v r read. elim (i.unread t q by e o m does v r read) [
-              | inl x ↦ inl x
+              | inl x ↦ inl (x.0, x.1, still_accepted t x.0 x.1 x.2, x.3)
               | inr x ↦ inr (omega (arith, x, shown_grows t))
             ]);
         shown = record {
@@ -433,10 +431,9 @@ pub may_lock : (w : View) (k : Key) (lock : Lock) → Inv w → w.collected k �
     → Does w.declared lock.start k lock.mutation → lock.start < lock.min → lock.min ≤ bound (accepting w lock)
     → bound (accepting w lock) ≤ w.last + 1 → (lock.mode ≡ Async → w.floor k < lock.min)
     → ((d : Declaration) → w.declared lock.start ≡ Some d → d.mode ≡ TwoPhase → lock.mode ≡ TwoPhase)
-    → ((d : Declaration) → w.declared lock.start ≡ Some d → d.drawn < bound (accepting w lock))
     → ((v : Value) → Inserts w.declared lock.start k v → Reads (w.cells k).write lock.start None)
     → ((v : Value) → Inserts w.declared lock.start k v → IsRead w.reads k lock.start) → MayLock w k lock
-may_lock w k lock i fresh uncommitted unrolled free low does above least upto after mode drawn none checked =
+may_lock w k lock i fresh uncommitted unrolled free low does above least upto after mode none checked =
     record {
       free = none_is (w.cells k).lock free;
       new = new;
@@ -447,7 +444,6 @@ may_lock w k lock i fresh uncommitted unrolled free low does above least upto af
       upto = upto;
       after_reads = after;
       mode = mode;
-      after = drawn;
       unseen = λ v ins. no_value w k lock.start i fresh free (none v ins);
       checked = checked;
       uncommitted = λ c end. (i.commits lock.start c end).accepts k

@@ -1,12 +1,12 @@
 -- Each change of a plan but `Nothing` changes the cells.
-use Rattle.std.proofs.Common.{◌≡◌, ◌≢◌, ℕ, ◌<◌, ◌==◌, inl, inr, true, false, cond, Option, Some, None, refl, sym, ap, subst, ◌∙◌, arith}
+use Rattle.std.proofs.Common.{◌≡◌, ◌≢◌, ℕ, ◌==◌, inl, inr, true, false, cond, Option, Some, None, refl, sym, ap, ◌∙◌, arith}
 use Rattle.tx_plan.specs.declared.body.Prewrite.{Prewrite}
 use Rattle.tx_plan.specs.declared.key_change.KeyChange.{KeyChange}
 use Rattle.tx_plan.specs.declared.key_change.KeyChange.TheVariants as change
 use Rattle.tx_plan.specs.declared.key_change.Left.{Left}
 use Rattle.tx_plan.specs.declared.key_change.Left.TheVariants as left
 use Rattle.tx_plan.specs.declared.key_change.NewLock.{NewLock}
-use Rattle.tx_plan.specs.Cells.{Lock, CommitRecord, Write, CommitOf, Rollback, Writes, Cells, with_write}
+use Rattle.tx_plan.specs.Cells.{Lock, Write, CommitOf, Rollback, Writes, Cells, with_write}
 use Rattle.tx_plan.specs.Changes.{changed, mark, after_left, Applies, after_put, CanPut}
 use Rattle.tx_plan.specs.RealChanges.{LeavesNew, Makes}
 use Rattle.tx_core.proofs.evolution.Keys.{nat_test}

@@ -1,11 +1,10 @@
 -- What each kind of change makes of the cells of a key: later cells, which meet what all cells
 -- meet.
-use Rattle.std.proofs.Common.{◌≡◌, ◌≢◌, ◌⊎◌, ℕ, ◌-◌, ◌+◌, ◌<◌, ◌≤◌, ◌==◌, inl, inr, zero, suc, Bool, true, false, cond, not, Option, Some, None, refl, sym, ap, subst, ◌∙◌, arith}
+use Rattle.std.proofs.Common.{◌≡◌, ◌≢◌, ◌⊎◌, ℕ, ◌-◌, ◌+◌, ◌<◌, ◌≤◌, ◌==◌, inl, inr, zero, suc, true, false, cond, not, Option, Some, None, refl, sym, ap, subst, ◌∙◌, arith}
 use Rattle.std.specs.Prelude.{◌&&◌, ◌||◌, nat_lt}
 use Rattle.std.proofs.lemmas.Bool.{cases_Bool, cases_lt, lt-ltb, le-ltb, and_parts, and_from, eqb-true, eqb-false, not-true}
-use Rattle.tx_types.specs.declared.mutation.Mutation.{Mutation}
 use Rattle.tx_plan.specs.declared.key_change.KeyChange.TheVariants as change
-use Rattle.tx_plan.specs.Cells.{Lock, CommitRecord, Write, CommitOf, Rollback, Writes, Cells, with_lock, with_write}
+use Rattle.tx_plan.specs.Cells.{Lock, CommitRecord, Write, CommitOf, Rollback, Writes, Cells, with_lock}
 use Rattle.tx_plan.specs.Own.{OwnLock, OwnCommit, OthersCommit, OwnRollback, marked, rolled, leave_rollback, is_own, roll_back, is_rollback, commit_of, lock_committed}
 use Rattle.tx_plan.specs.Changes.{HasCommitAt}
 use Rattle.tx_plan.specs.Sound.{IsSound}

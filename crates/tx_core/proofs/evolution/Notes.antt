@@ -1,9 +1,9 @@
 -- The number that is noted of a key tells whether its cells are those of an earlier moment.
-use Rattle.std.proofs.Common.{◌≡◌, ◌≢◌, ◌⊎◌, ℕ, ◌+◌, ◌<◌, ◌≤◌, ◌==◌, inl, inr, cond, List, [], ◌∷◌, Option, Some, refl, sym, ap, subst, ◌∙◌, arith}
+use Rattle.std.proofs.Common.{◌≡◌, ◌≢◌, ◌⊎◌, ℕ, ◌+◌, ◌<◌, ◌≤◌, inl, inr, List, [], ◌∷◌, Some, refl, sym, ap, subst, ◌∙◌, arith}
 use Rattle.std.proofs.lemmas.Bool.{cases_lt}
 use Rattle.tx_types.specs.declared.key.Key.{Key}
-use Rattle.tx_plan.specs.Cells.{Cells, Region}
-use Rattle.tx_plan.specs.Answers.{Answers, leaves}
+use Rattle.tx_plan.specs.Cells.{Region}
+use Rattle.tx_plan.specs.Answers.{leaves}
 use Rattle.tx_core.specs.declared.event.Taken.{Taken}
 use Rattle.tx_core.specs.declared.event.Event.{Event}
 use Rattle.tx_core.specs.declared.event.Event.TheVariants.{Drawn, Began, Declared, Answered, Stopped, Took}
@@ -12,9 +12,8 @@ use Rattle.tx_core.specs.Recording.{owner, Extends}
 use Rattle.tx_core.specs.Worlds.{MayCome, IsWorldRun}
 use Rattle.tx_core.proofs.Basics.{nat_test}
 use Rattle.tx_core.proofs.seats.Replies.{left_on}
-use Rattle.tx_core.proofs.seats.Beginnings.{begins_all, begins_more, begins_either, extends_begins, extends_between, other_on, run_beginning}
-use Rattle.tx_core.specs.Later.{AreRegular, IsLater, GoesOn}
-use Rattle.tx_plan.specs.declared.body.Body.{Body}
+use Rattle.tx_core.proofs.seats.Beginnings.{begins_either, extends_begins, extends_between, other_on}
+use Rattle.tx_core.specs.Later.{AreRegular, GoesOn}
 use Rattle.tx_plan.specs.declared.body.Collect.{Collect}
 use Rattle.tx_plan.specs.declared.body.Body.TheVariants as body
 use Rattle.tx_plan.specs.declared.answer.Answer.{Answer}

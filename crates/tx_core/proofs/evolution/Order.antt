@@ -1,5 +1,5 @@
 -- Later cells are an order: no state comes back.
-use Rattle.std.proofs.Common.{◌≡◌, ◌≢◌, ◌⊎◌, ℕ, ◌≤◌, inl, inr, true, Option, Some, None, refl, sym, ap, subst, ◌∙◌, arith}
+use Rattle.std.proofs.Common.{◌≡◌, ◌≢◌, ◌⊎◌, ℕ, inl, inr, true, Option, Some, None, refl, sym, ap, subst, ◌∙◌, arith}
 use Rattle.tx_plan.specs.Cells.{Lock, CommitRecord, Write, CommitOf, Rollback, Writes, Cells}
 use Rattle.tx_plan.specs.Own.{marked}
 use Rattle.tx_core.specs.Later.{IsLengthened, LockLater, WriteLater, IsLater}

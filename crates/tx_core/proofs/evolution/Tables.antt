@@ -1,9 +1,8 @@
 -- What each answer leaves of its key, by its case table: later cells, which meet what all cells
 -- meet.
-use Rattle.std.proofs.Common.{◌≡◌, ◌≢◌, ◌⊎◌, ℕ, max, ◌+◌, ◌<◌, ◌≤◌, ◌==◌, inl, inr, zero, suc, Bool, true, false, cond, Option, Some, None, refl, sym, ap, subst, ◌∙◌, arith}
+use Rattle.std.proofs.Common.{◌≡◌, ◌⊎◌, ℕ, max, ◌+◌, ◌<◌, ◌≤◌, ◌==◌, inl, inr, Option, Some, None, refl, sym, ap, subst, ◌∙◌, arith}
 use Rattle.std.proofs.lemmas.Bool.{cases_Bool, cases_lt, eqb-true, eqb-false, eq-eqb}
 use Rattle.tx_types.specs.declared.mutation.Fate.TheVariants as fate
-use Rattle.tx_types.specs.declared.mutation.Mode.TheVariants.{Async}
 use Rattle.tx_plan.specs.declared.body.Prewrite.{Prewrite}
 use Rattle.tx_plan.specs.declared.body.Commit.{Commit}
 use Rattle.tx_plan.specs.declared.body.BatchRollback.{BatchRollback}
@@ -14,15 +13,15 @@ use Rattle.tx_plan.specs.declared.body.ResolveLock.{ResolveLock}
 use Rattle.tx_plan.specs.declared.answer.Answer.{Answer}
 use Rattle.tx_plan.specs.declared.answer.Answer.TheVariants.{Committed, Prewritten, RolledBack, Missing, Locked, Ttl, Resolved, KeyIsLocked, WriteConflict, AlreadyRolledBack, AlreadyCommitted, CommitTsExpired, TxnLockNotFound, BelowSafePoint, FutureTimestamp, TxnNotFound, AlreadyExists}
 use Rattle.tx_plan.specs.Cells.{Lock, CommitRecord, Cells, info_of, with_lock}
-use Rattle.tx_plan.specs.Own.{OwnLock, OwnCommit, OthersCommit, OwnRollback, on_own_lock, leave_rollback, roll_back, lock_committed, commit_lock}
+use Rattle.tx_plan.specs.Own.{OwnLock, OwnCommit, OthersCommit, OwnRollback, on_own_lock, roll_back, lock_committed, commit_lock}
 use Rattle.tx_plan.specs.cases.Prewrite.{AnswersPrewrite, lock_of, named_minimum}
-use Rattle.tx_plan.specs.cases.Commit.{AnswersCommit, CommitsLock}
+use Rattle.tx_plan.specs.cases.Commit.{AnswersCommit}
 use Rattle.tx_plan.specs.cases.BatchRollback.{AnswersBatchRollback}
 use Rattle.tx_plan.specs.cases.TxnHeartBeat.{AnswersTxnHeartBeat, with_ttl}
 use Rattle.tx_plan.specs.cases.CheckTxnStatus.{AnswersCheckTxnStatus, ChecksLock, with_minimum}
 use Rattle.tx_plan.specs.cases.CheckSecondaryLocks.{AnswersCheckSecondaryLocks}
 use Rattle.tx_plan.specs.cases.ResolveLock.{AnswersResolveLock, ResolvesLock, resolve}
-use Rattle.tx_core.specs.Later.{IsLengthened, IsRegular}
+use Rattle.tx_core.specs.Later.{IsRegular}
 use Rattle.tx_core.proofs.evolution.Keys.{IsFine, fine_same, put_fine, lengthen_fine, commit_fine, roll_back_fine, leave_fine}
 use Rattle.tx_plan.specs.Answers.{leaves_on}
 use Rattle.tx_plan.specs.declared.body.Body.TheVariants as asked

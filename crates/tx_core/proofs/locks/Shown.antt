@@ -1,6 +1,6 @@
 -- What is shown of the minimum of a lock on its primary rises, and what answers tell of
 -- locks was shown.
-use Rattle.std.proofs.Common.{◌≡◌, ◌≢◌, ℕ, ◌+◌, ◌≤◌, ◌==◌, ◌&&◌, inl, inr, Bool, true, false, cond, List, [], ◌∷◌, None, refl, sym, ap, subst, ◌∙◌, arith}
+use Rattle.std.proofs.Common.{◌≡◌, ◌≢◌, ℕ, ◌+◌, ◌≤◌, ◌==◌, ◌&&◌, inl, inr, Bool, true, false, cond, List, [], ◌∷◌, Some, None, refl, sym, ap, subst, ◌∙◌, arith}
 use Rattle.std.specs.Prelude.{Contains}
 use Rattle.std.proofs.lemmas.Bool.{cases_Bool, cases_lt, and_parts, eqb-true, eq-eqb}
 use Rattle.tx_types.specs.declared.key.Key.{Key}
@@ -23,15 +23,19 @@ use Rattle.tx_core.specs.declared.event.Taken.{Taken}
 use Rattle.tx_core.specs.declared.event.Event.{Event}
 use Rattle.tx_core.specs.declared.event.Event.TheVariants.{Drawn, Began, Declared, Answered, Stopped, Took}
 use Rattle.tx_core.specs.Histories.{History, last, declared, set_at, is_first, left}
-use Rattle.tx_core.specs.Decisions.{Puts, NoEffect, effect, effect_in, infos_in, accepted, Shows as HasShown}
-use Rattle.tx_core.specs.Allowed.{Allowed, AllowsCheckTxnStatus}
-use Rattle.tx_core.specs.Worlds.{route, Holds, MayTake, MayCome}
+use Rattle.tx_core.specs.Decisions.{Acceptance, Puts, NoEffect, effect, effect_in, infos_in, accepted}
+use Rattle.tx_core.specs.Laws.{WasToldOf}
+use Rattle.tx_core.specs.Allowed.{AllowsCheckTxnStatus}
+use Rattle.tx_core.specs.Worlds.{route, Holds}
+use Rattle.tx_core.specs.Legal.{IsLegalRequest, IsLegallyTaken, IsLegal}
 use Rattle.tx_core.proofs.Basics.{nat_test, cond_true}
 use Rattle.tx_core.proofs.view.View.{never_accepted, first_declared}
 use Rattle.tx_core.proofs.view.HistoryView.{shown_put, shown_told, shown_in, view}
+use Rattle.tx_core.proofs.seats.Beginnings.{begins_all}
+use Rattle.tx_core.proofs.seats.Stays.{accepted_on}
 use Rattle.tx_core.proofs.requests.Good.{Good, took, cells_at}
 pub use Rattle.tx_core.proofs.locks.Told.{ToldShown, told_first}
-use Rattle.tx_core.proofs.locks.Told.{AllShown, IsPrewrite, IsShown, IsStatusCheck, collect_tells, commit_tells, contains_one, get_tells, heart_beat_tells, locks_tell, no_put, nothing, prewrite_tells, raise_tells, resolve_tells, rollback_tells, scan_tells, secondary_tells, shown_stays, stays_routed, told_stays}
+use Rattle.tx_core.proofs.locks.Told.{AllShown, IsPromised, promised_on, IsPrewrite, IsShown, IsStatusCheck, collect_tells, commit_tells, contains_one, get_tells, heart_beat_tells, locks_tell, no_put, nothing, prewrite_tells, raise_tells, resolve_tells, rollback_tells, scan_tells, secondary_tells, shown_stays, stays_routed, told_stays}
 
 module _ (bounds : List Key) (h : History) (good : Good bounds h) (before : ToldShown bounds h) where
   -- ---- what is shown rises
@@ -139,7 +143,11 @@ module _ (bounds : List Key) (h : History) (good : Good bounds h) (before : Told
       record {
         rises = rises;
         tells =
-            λ info c. (let was = tells info c in (was.0, λ first. omega (arith, was.1 first, rises info.start)));
+            λ info c. (let was = tells info c in (
+              was.0,
+              promised_on (accepted h) (accepted h) (shown_in h)
+                  (shown_in (Took (took n x l a) ∷ h)) info.start info.min (rises info.start) (λ k by e. e) was.1,
+            ));
       }
 
   module _ (b : CheckTxnStatus) (l : ℕ) (may : AllowsCheckTxnStatus h b) where
@@ -176,7 +184,7 @@ module _ (bounds : List Key) (h : History) (good : Good bounds h) (before : Told
               (IsShown h (shown_in (Took (took there (body.CheckTxnStatus b) l (Locked (info_of b.key told))) ∷ h)))
               (contains_one (info_of b.key told) info c) (
                 some,
-                λ first. (let now = cond_true (b.start == told.start) told.min (shown_in h told.start)
+                inl (let now = cond_true (b.start == told.start) told.min (shown_in h told.start)
                     (eq-eqb b.start told.start (sym (start ∙ own.own))) in omega (arith, now)),
               );
         })
@@ -216,62 +224,74 @@ module _ (bounds : List Key) (h : History) (good : Good bounds h) (before : Told
 
   -- ---- every request
 
-  shows : (n : ℕ) (x : Body) (l : ℕ) (a : Answer) → Allowed h x → Holds bounds n x → Answers (left h n) l (last h) x a
+  shows : (n : ℕ) (x : Body) (l : ℕ) (a : Answer) → IsLegalRequest h x → Holds bounds n x
+      → Answers (left h n) l (last h) x a
       → Shows n x l a
-  shows n (body.Get b) l a allowed holds answers =
+  shows n (body.Get b) l a legal holds answers =
       shows_by n (body.Get b) l a (rises_quiet n (body.Get b) l a (λ y. y) (λ y. y))
       (get_tells bounds h good before n l b a answers)
-  shows n (body.Scan b) l a allowed holds answers =
+  shows n (body.Scan b) l a legal holds answers =
       shows_by n (body.Scan b) l a (rises_quiet n (body.Scan b) l a (λ y. y) (λ y. y))
       (scan_tells bounds h good before n l b a answers)
-  shows n (body.Prewrite b) l a allowed holds answers =
+  shows n (body.Prewrite b) l a legal holds answers =
       shows_by n (body.Prewrite b) l a
       (subst (λ m. Rises m (body.Prewrite b) l a) holds
       (rises_prewrite b l a (subst (λ m. Answers (left h m) l (last h) (body.Prewrite b) a) (sym holds) answers)))
       (prewrite_tells bounds h good before n l b a answers)
-  shows n (body.Commit b) l a allowed holds answers =
+  shows n (body.Commit b) l a legal holds answers =
       shows_by n (body.Commit b) l a (rises_quiet n (body.Commit b) l a (λ y. y) (λ y. y))
       (commit_tells bounds h good before n l b a answers)
-  shows n (body.BatchRollback b) l a allowed holds answers =
+  shows n (body.BatchRollback b) l a legal holds answers =
       shows_by n (body.BatchRollback b) l a (rises_quiet n (body.BatchRollback b) l a (λ y. y) (λ y. y))
       (rollback_tells bounds h good before n l b a answers)
-  shows n (body.TxnHeartBeat b) l a allowed holds answers =
+  shows n (body.TxnHeartBeat b) l a legal holds answers =
       shows_by n (body.TxnHeartBeat b) l a (rises_quiet n (body.TxnHeartBeat b) l a (λ y. y) (λ y. y))
       (heart_beat_tells bounds h good before n l b a answers)
-  shows n (body.CheckTxnStatus b) l a allowed holds answers =
+  shows n (body.CheckTxnStatus b) l a legal holds answers =
       subst (λ m. Shows m (body.CheckTxnStatus b) l a) holds
-      (shows_status b l allowed a
+      (shows_status b l legal a
       (subst (λ m. Answers (left h m) l (last h) (body.CheckTxnStatus b) a) (sym holds) answers))
-  shows n (body.CheckSecondaryLocks b) l a allowed holds answers =
+  shows n (body.CheckSecondaryLocks b) l a legal holds answers =
       shows_by n (body.CheckSecondaryLocks b) l a (rises_quiet n (body.CheckSecondaryLocks b) l a (λ y. y) (λ y. y))
       (secondary_tells bounds h good before n l b a answers)
-  shows n (body.ResolveLock b) l a allowed holds answers =
+  shows n (body.ResolveLock b) l a legal holds answers =
       shows_by n (body.ResolveLock b) l a (rises_quiet n (body.ResolveLock b) l a (λ y. y) (λ y. y))
       (resolve_tells bounds h good before n l b a answers)
-  shows n (body.RaiseSafe b) l a allowed holds answers =
+  shows n (body.RaiseSafe b) l a legal holds answers =
       shows_by n (body.RaiseSafe b) l a (rises_quiet n (body.RaiseSafe b) l a (λ y. y) (λ y. y))
       (raise_tells bounds h good before n l b a answers)
-  shows n (body.LocksBelow b) l a allowed holds answers =
+  shows n (body.LocksBelow b) l a legal holds answers =
       shows_by n (body.LocksBelow b) l a (rises_quiet n (body.LocksBelow b) l a (λ y. y) (λ y. y))
       (locks_tell bounds h good before n l b a answers)
-  shows n (body.Collect b) l a allowed holds answers =
+  shows n (body.Collect b) l a legal holds answers =
       shows_by n (body.Collect b) l a (rises_quiet n (body.Collect b) l a (λ y. y) (λ y. y))
       (collect_tells bounds h good before n l b a answers)
 
   -- ---- every event
 
-  -- an event that no region takes, and that declares nothing bounds h good before that was declared
-  told_took : (x : Taken) → MayTake bounds h x → ToldShown bounds (Took x ∷ h)
+  -- an acceptance stays
+  still : (x : Taken) (t : ℕ) (k : Key) (by : Acceptance) → accepted h t k ≡ Some by
+      → accepted (Took x ∷ h) t k ≡ Some by
+  still x = accepted_on h (Took x ∷ h) (inr (begins_all h))
+
+  told_took : (x : Taken) → IsLegallyTaken bounds h x → ToldShown bounds (Took x ∷ h)
   told_took x may =
-      let new = shows x.region x.body x.loaded x.answer may.allowed may.holds may.answers in
+      let new = shows x.region x.body x.loaded x.answer may.legal may.holds may.answers in
       record {
         routed = stays_routed bounds h before x.region x.body x.loaded x.answer may.holds;
         told = λ by among info c.
             elim among [
               | inl now ↦ (let same : x ≡ by = cc (now) in
-                  new.tells info (subst (λ (y : Taken). Contains (infos_in y.answer) info) (sym same) c))
-              | inr old ↦ (let was = before.told by old info c in
-                  (was.0, λ first. omega (arith, was.1 first, new.rises info.start)))
+                  let is = new.tells info (subst (λ (y : Taken). Contains (infos_in y.answer) info) (sym same) c) in (
+                    is.0,
+                    promised_on (accepted h) (accepted (Took x ∷ h)) (shown_in (Took x ∷ h))
+                        (shown_in (Took x ∷ h)) info.start info.min (omega arith) (still x info.start) is.1,
+                  ))
+              | inr old ↦ (let was = before.told by old info c in (
+                was.0,
+                promised_on (accepted h) (accepted (Took x ∷ h)) (shown_in h) (shown_in (Took x ∷ h))
+                    info.start info.min (new.rises info.start) (still x info.start) was.1,
+              ))
             ];
       }
 
@@ -290,7 +310,7 @@ module _ (bounds : List Key) (h : History) (good : Good bounds h) (before : Told
             ];
       }
 
-  pub told_next : (e : Event) → MayCome bounds h e → ToldShown bounds (e ∷ h)
+  pub told_next : (e : Event) → IsLegal bounds h e → ToldShown bounds (e ∷ h)
   told_next (Took x) may = told_took x may
   told_next (Declared d) may = told_declared d may.once
   told_next (Drawn seat n) may =
@@ -318,10 +338,7 @@ module _ (bounds : List Key) (h : History) (good : Good bounds h) (before : Told
             λ by among info c. elim among [ inl now ↦ absurd (cc (now)) | inr old ↦ before.told by old info c ];
       }
 
--- what was told above r was shown above it
-pub shown_above : (bounds : List Key) (h : History) → ToldShown bounds h → (t m : ℕ) → HasShown h t m → m ≤ shown_in h t
-shown_above bounds h before t m has =
-    let was = before.told has.by has.among has.info has.told in
-    let first : is_first (set_at h has.info.start) has.info.key ≡ true =
-    subst (λ u. is_first (set_at h u) has.info.key ≡ true) (sym has.own) has.primary in
-    omega (arith, has.min, was.1 first, ap (shown_in h) has.own)
+-- who had a lock that was told of commits at or above its minimum
+pub told_promised : (bounds : List Key) (h : History) → ToldShown bounds h → (info : LockInfo) → WasToldOf h info
+    → IsPromised (accepted h) (shown_in h) info.start info.min
+told_promised bounds h before info was = (before.told was.by was.among info was.told).1

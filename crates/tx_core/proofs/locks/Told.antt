@@ -1,5 +1,6 @@
 -- What answers tell of locks that stand.
 use Rattle.std.proofs.Common.{◌≡◌, ◌≢◌, ℕ, ◌<◌, ◌≤◌, ◌==◌, ◌⊎◌, zero, suc, inl, inr, Bool, true, false, cond, List, [], ◌∷◌, length, Option, Some, None, bytes_eq, refl, sym, ap, subst, ◌∙◌, arith}
+use Rattle.std.proofs.lemmas.Bool.{cases_Bool}
 use Rattle.std.specs.Prelude.{Contains}
 use Rattle.std.specs.List.{slice_index_or}
 use Rattle.tx_types.specs.declared.key.Key.{Key}
@@ -30,19 +31,30 @@ use Rattle.tx_plan.specs.cases.ResolveLock.{ResolvesLock}
 use Rattle.tx_core.specs.declared.event.Taken.{Taken}
 use Rattle.tx_core.specs.declared.event.Event.TheVariants.{Took}
 use Rattle.tx_core.specs.Histories.{History, last, declared, set_at, is_first, left, Among}
-use Rattle.tx_core.specs.Decisions.{Effect, Puts, Settles, RollsBack, NoEffect, effect, infos_in}
+use Rattle.tx_core.specs.Decisions.{Acceptance, Effect, Puts, Settles, RollsBack, NoEffect, effect, infos_in, accepted}
 use Rattle.tx_plan.specs.Own.{is_own}
 use Rattle.tx_core.specs.Worlds.{route, Holds}
-use Rattle.tx_core.proofs.Basics.{nat_test, key_test, cond_true, cond_false}
-use Rattle.tx_core.proofs.view.View.{does_declared}
+use Rattle.tx_core.proofs.Basics.{nat_test, key_test, some_of, cond_true, cond_false}
+use Rattle.tx_core.proofs.view.View.{bound, does_declared}
 use Rattle.tx_core.proofs.view.HistoryView.{shown_put, shown_told, shown_in}
 use Rattle.tx_core.proofs.requests.Good.{Good, took, cells_at}
 
--- what is told of a lock, once it was: its transaction is declared, and if the key is the primary,
--- the minimum was shown
+-- a transaction commits at or above m, if it does: that minimum was shown, or is that of a key
+abbrev pub IsPromised : (ℕ → Key → Option Acceptance) → (ℕ → ℕ) → ℕ → ℕ → Type 0
+IsPromised accepted shown t m = (m ≤ shown t)
+    ⊎ ((k : Key) × (by : Acceptance) × (accepted t k ≡ Some by) × (m ≤ bound by))
+
+-- that stays so, as acceptances stay and what is shown rises
+pub promised_on : (accepted next : ℕ → Key → Option Acceptance) (shown rises : ℕ → ℕ) (t m : ℕ) → shown t ≤ rises t
+    → ((k : Key) (by : Acceptance) → accepted t k ≡ Some by → next t k ≡ Some by) → IsPromised accepted shown t m
+    → IsPromised next rises t m
+promised_on accepted next shown rises t m more stays is =
+    elim is [ inl x ↦ inl (omega (arith, x, more)) | inr x ↦ inr (x.0, x.1, stays x.0 x.1 x.2, x.3) ]
+
+-- what is told of a lock, once it was: its transaction is declared, and commits at or above the
+-- minimum
 abbrev pub IsShown : History → (ℕ → ℕ) → LockInfo → Type 0
-IsShown h shown info =
-    (declared h info.start ≢ None) × (is_first (set_at h info.start) info.key ≡ true → info.min ≤ shown info.start)
+IsShown h shown info = (declared h info.start ≢ None) × IsPromised (accepted h) shown info.start info.min
 
 -- A lock stands in the region of its key, and whatever was told of a lock was shown.
 pub record ToldShown (bounds : List Key) (h : History) : Type 0 where
@@ -188,7 +200,20 @@ module _ (bounds : List Key) (h : History) (good : Good bounds h) (before : Told
       let here : (cells_at bounds h k).lock ≡ Some lock =
       subst (λ m. ((left h m).cells k).lock ≡ Some lock) (sym (before.routed n k lock e)) e in (
         does_declared (declared h) lock.start k lock.mutation ((good.sound.inv.keys k).lock lock here).does,
-        λ first. omega (arith, ((good.sound.inv.keys k).lock lock here).shows first),
+        elim (cases_Bool (is_first (set_at h lock.start) k)) [
+          | inl f ↦ inl (omega (arith, ((good.sound.inv.keys k).lock lock here).shows f))
+          | inr f ↦ (let of = some_of (accepted h lock.start k) ((good.sound.inv.keys k).lock lock here).accepts in
+              inr (
+                k,
+                of.0,
+                of.1,
+                omega (
+                  arith,
+                  ((good.sound.inv.keys k).lock lock here).min f of.0 of.1,
+                  (good.sound.inv.acceptances lock.start k of.0 of.1).bounded,
+                ),
+              ))
+        ],
       )
 
   pub nothing : (a : Answer) → infos_in a ≡ [] → AllShown a

@@ -1,5 +1,5 @@
 -- A region answers what stands of an async transaction on a key.
-use Rattle.std.proofs.Common.{◌≡◌, ◌≢◌, ℕ, ◌<◌, inl, inr, List, None, refl, sym, ap, subst, ◌∙◌}
+use Rattle.std.proofs.Common.{◌≡◌, ◌≢◌, ℕ, ◌<◌, inl, inr, List, None, refl, sym, ap, subst}
 use Rattle.std.proofs.lemmas.Bool.{cases_lt}
 use Rattle.tx_types.specs.declared.key.Key.{Key}
 use Rattle.tx_machine.specs.Keys.{mutation_at}
@@ -12,7 +12,6 @@ use Rattle.tx_plan.specs.Own.{OwnLock, OwnCommit, leave_rollback}
 use Rattle.tx_plan.specs.cases.CheckSecondaryLocks.{AnswersCheckSecondaryLocks}
 use Rattle.tx_core.specs.Histories.{History, declared, set_of, set_at, left}
 use Rattle.tx_core.specs.Decisions.{accepted, decided}
-use Rattle.tx_core.specs.Allowed.{AllowsCheckSecondaryLocks}
 use Rattle.tx_core.specs.Worlds.{route}
 use Rattle.tx_core.proofs.view.View.{IsAborted, never_accepted}
 use Rattle.tx_core.proofs.view.Ends.{missing_live}
@@ -61,30 +60,27 @@ module _ (bounds : List Key) (h : History) (good : Good bounds h) (b : CheckSeco
 
   -- nothing of it stands there but perhaps its rollback: it was never accepted there where
   -- it is not aborted
-  missing : AllowsCheckSecondaryLocks h b → (b.start < (left h (route bounds b.key)).collected → ⊥)
+  missing : mutation_at (set_at h b.start) b.key ≢ None → (b.start < (left h (route bounds b.key)).collected → ⊥)
       → ((lock : Lock) → OwnLock (cells_at bounds h b.key).lock b.start lock → ⊥)
       → ((c : ℕ) → OwnCommit (cells_at bounds h b.key).write b.start c → ⊥)
       → Next bounds h (took (route bounds b.key) (body.CheckSecondaryLocks b) l Missing)
-  missing may fresh unlocked uncommitted =
+  missing within fresh unlocked uncommitted =
       rolled bounds h good b.key (body.CheckSecondaryLocks b) l Missing b.start roll leaves some
       (λ c e. missing_live (view bounds h) b.key b.start c good.sound.inv within (never (λ gone. (cc (e, gone)))) e)
       (λ o. ends_abort_leaving (view bounds h) b.key b.start good.sound.inv good.ends o some within
       (never (λ gone. (cc (o, gone)))))
     where
       some : declared h b.start ≢ None
-      some none = cc (none, may.stands)
+      some none = within (ap (λ o. mutation_at (set_of o) b.key) none)
 
       never : (IsAborted (decided h) b.start → ⊥) → accepted h b.start b.key ≡ None
       never live = never_accepted (view bounds h) b.key b.start good.sound.inv
           (elim (cases_lt b.start (left h (route bounds b.key)).collected) [ inl lt ↦ absurd (fresh lt) | inr le ↦ le ])
           unlocked uncommitted (λ own. live ((good.sound.inv.keys b.key).records.rolled b.start own))
 
-      within : mutation_at (set_at h b.start) b.key ≢ None
-      within none = may.within (sym (ap (λ o. mutation_at (set_of o) b.key) may.stands) ∙ none)
-
   -- ---- the rows
 
-  pub next_check_secondary : (a : Answer) → AllowsCheckSecondaryLocks h b
+  pub next_check_secondary : (a : Answer) → mutation_at (set_at h b.start) b.key ≢ None
       → AnswersCheckSecondaryLocks (cells_at bounds h b.key) (left h (route bounds b.key)).collected b a
       → Next bounds h (took (route bounds b.key) (body.CheckSecondaryLocks b) l a)
   next_check_secondary a may (inl x) =

@@ -14,8 +14,8 @@ use Rattle.tx_plan.specs.Own.{OwnLock, OwnCommit, OthersCommit, lock_committed, 
 use Rattle.tx_plan.specs.cases.Commit.{AnswersCommit}
 use Rattle.tx_core.specs.Histories.{History, declared, is_first, set_at, left}
 use Rattle.tx_core.specs.Decisions.{Settles, NoEffect, accepted, first_decided, decided}
-use Rattle.tx_core.specs.Allowed.{MayDecide}
 use Rattle.tx_core.specs.Worlds.{route}
+use Rattle.tx_core.specs.Legal.{IsLegalDecision}
 use Rattle.tx_core.specs.Shadow.{deciding, shadow}
 use Rattle.tx_core.specs.Truth.{IsOpen}
 use Rattle.tx_core.proofs.Basics.{nat_test, nat_same, cond_true, some_of}
@@ -45,7 +45,7 @@ module _ (bounds : List Key) (h : History) (good : Good bounds h) (b : Commit) (
 
   -- it is decided so, or this decides
   abbrev May : Type 0
-  May = (decided h b.start ≡ Done (fate.Committed b.commit)) ⊎ MayDecide h b
+  May = (decided h b.start ≡ Done (fate.Committed b.commit)) ⊎ IsLegalDecision h b
 
   silent : (a x : Answer) → a ≡ x → Next bounds h (took (route bounds b.key) (body.Commit b) l x)
       → Next bounds h (took (route bounds b.key) (body.Commit b) l a)
@@ -135,7 +135,7 @@ module _ (bounds : List Key) (h : History) (good : Good bounds h) (b : Commit) (
         → Next bounds h (took (route bounds b.key) (body.Commit b) l (Committed b.commit))
     done may high = elim may [ inl end ↦ follows end | inr new ↦ first_time new ]
       where
-        first_time : MayDecide h b
+        first_time : IsLegalDecision h b
             → Next bounds h (took (route bounds b.key) (body.Commit b) l (Committed b.commit))
         first_time new =
             let first : is_first (set_at h b.start) b.key ≡ true = new.primary in
@@ -148,12 +148,12 @@ module _ (bounds : List Key) (h : History) (good : Good bounds h) (b : Commit) (
                   new.two_phase.two_phase;
             } in
             let o : decided h b.start ≡ Open =
-            first_opens (view bounds h) b.key b.start lock good.ends fell first own new.accepted in
+            first_opens (view bounds h) b.key b.start lock good.ends fell first own new.complete in
             let low : lock.min ≤ b.commit =
             elim (cases_lt b.commit lock.min) [ inl lt ↦ absurd (high lt) | inr le ↦ le ] in
             decides fell first (decide.decide_drawn (view bounds h) b.start b.commit b.key lock good.sound.inv o
-            new.accepted (λ none. (cc (none, new.drawn.of_commit)))
-            (λ k by e. new.drawn.after k by
+            new.complete new.drawn
+            (λ k by e. new.after k by
             (does_within (declared h) b.start k by.lock.mutation (good.sound.inv.acceptances b.start k by e).does)
             e) first own low)
 
@@ -169,7 +169,7 @@ module _ (bounds : List Key) (h : History) (good : Good bounds h) (b : Commit) (
               (subst (λ t. IsCommitted (decided h) t b.commit) (sym own.own) end),
         )
 
-        opened : MayDecide h b → IsOpen (table_of (shadow h)) b.start
+        opened : IsLegalDecision h b → IsOpen (table_of (shadow h)) b.start
         opened new =
             let first : is_first (set_at h b.start) b.key ≡ true = new.primary in
             let fell : FellBack (accepted h) b.start =
@@ -182,7 +182,7 @@ module _ (bounds : List Key) (h : History) (good : Good bounds h) (b : Commit) (
             } in
             let of = first_declared (declared h b.start) b.key first in
             still_open (table_of (shadow h)) (view bounds h) b.start of.0 good.sound.inv good.sound.shows of.1
-            (first_opens (view bounds h) b.key b.start lock good.ends fell first own new.accepted)
+            (first_opens (view bounds h) b.key b.start lock good.ends fell first own new.complete)
 
     -- no other's commit record stands where it commits: it lies above the start
     unmet : May → (rec : CommitRecord)
@@ -199,7 +199,7 @@ module _ (bounds : List Key) (h : History) (good : Good bounds h) (b : Commit) (
             is.above,
             is.bounded,
             is.upto,
-            new.drawn.after b.key of.0
+            new.after b.key of.0
                 (does_within (declared h) b.start b.key of.0.lock.mutation is.does) of.1,
           ))
     ]

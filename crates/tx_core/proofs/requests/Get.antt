@@ -13,7 +13,7 @@ use Rattle.tx_plan.specs.Cells.{info_of}
 use Rattle.tx_plan.specs.Reads.{Blocks, Reads, read_answer}
 use Rattle.tx_plan.specs.cases.Get.{AnswersGet}
 use Rattle.tx_core.specs.Histories.{History, last, left}
-use Rattle.tx_core.specs.Decisions.{decided}
+use Rattle.tx_core.specs.Decisions.{accepted, decided}
 use Rattle.tx_core.specs.Worlds.{route}
 use Rattle.tx_core.specs.Shadow.{shadow}
 use Rattle.tx_core.proofs.Basics.{key_true}
@@ -67,7 +67,8 @@ module _ (bounds : List Key) (h : History) (good : Good bounds h) (b : Get) (l :
         assemble_read bounds h good (route bounds b.key) (body.Get b) l Nothing b.at (is_read Nothing) sound
         sound.run.1.1
 
-  pub next_get : (a : Answer) → ((t : ℕ) → Contains b.bypass t → Passes (decided h) (shown_in h) b.at t) → l ≤ last h
+  pub next_get : (a : Answer) → ((t : ℕ) → Contains b.bypass t → Passes (decided h) (accepted h) (shown_in h) b.at t)
+      → l ≤ last h
       → AnswersGet (cells_at bounds h b.key) (left h (route bounds b.key)).safe l b a
       → Next bounds h (took (route bounds b.key) (body.Get b) l a)
   next_get a may upto (inl x) =

@@ -6,7 +6,6 @@ use Rattle.tx_types.specs.declared.key.Key.{Key}
 use Rattle.tx_types.specs.declared.value.Value.{Value}
 use Rattle.tx_types.specs.declared.mutation.Mutation.{Mutation}
 use Rattle.tx_types.specs.declared.mutation.Mutation.TheVariants as mutation
-use Rattle.tx_types.specs.declared.mutation.Mode.{Mode}
 use Rattle.tx_types.specs.declared.mutation.Mode.TheVariants.{TwoPhase, Async}
 use Rattle.tx_types.specs.declared.mutation.Fate.TheVariants.{Committed}
 use Rattle.tx_machine.specs.declared.step.Step.{Step}
@@ -31,8 +30,8 @@ use Rattle.tx_core.specs.declared.event.Taken.{Taken}
 use Rattle.tx_core.specs.declared.event.Event.TheVariants.{Took}
 use Rattle.tx_core.specs.Histories.{History, last, declared, set_of, set_at, left}
 use Rattle.tx_core.specs.Decisions.{Acceptance, Effect, Puts, NoEffect, effect_in, accepted, accepted_by, decision, first_decided, greatest, committed_at, decided}
-use Rattle.tx_core.specs.Allowed.{floor_of, AllowsPrewrite}
 use Rattle.tx_core.specs.Worlds.{route}
+use Rattle.tx_core.specs.Legal.{IsLegalPrewrite}
 use Rattle.tx_core.specs.Shadow.{deciding, deciding_in, checked, checking, shadow}
 use Rattle.tx_core.specs.Truth.{IsTrueAnswer}
 use Rattle.tx_core.proofs.Basics.{nat_test, nat_same, key_test, key_same, key_true, cond_true, cond_false, some_same, none_is}
@@ -301,31 +300,31 @@ module _ (bounds : List Key) (h : History) (good : Good bounds h) (b : Prewrite)
 
   -- ---- the rows
 
-  pub next_prewrite : (a : Answer) (may : AllowsPrewrite h b) → may.of.drawn ≤ last h → l ≤ last h
+  pub next_prewrite : (a : Answer) (may : IsLegalPrewrite h b) → l ≤ last h
       → AnswersPrewrite (cells_at bounds h b.key) (left h (route bounds b.key)).safe l
       (MayPromise (left h (route bounds b.key)).max_read (last h) b) b a
       → Next bounds h (took (route bounds b.key) (body.Prewrite b) l a)
-  next_prewrite a may drew upto (inl x) =
+  next_prewrite a may upto (inl x) =
       silent a (BelowSafePoint (left h here).safe) x.1 (still (BelowSafePoint (left h here).safe) refl refl tt)
-  next_prewrite a may drew upto (inr (no0, inl x)) =
+  next_prewrite a may upto (inr (no0, inl x)) =
       silent a (FutureTimestamp l) x.1 (still (FutureTimestamp l) refl refl tt)
-  next_prewrite a may drew upto (inr (no0, inr (no1, inl (lock, own, e)))) =
+  next_prewrite a may upto (inr (no0, inr (no1, inl (lock, own, e)))) =
       silent a (Prewritten (named_minimum lock)) e (again lock own (named_minimum lock))
-  next_prewrite a may drew upto (inr (no0, inr (no1, inr (no2, inl x)))) =
+  next_prewrite a may upto (inr (no0, inr (no1, inr (no2, inl x)))) =
       silent a AlreadyRolledBack x.1 (still AlreadyRolledBack refl refl (true_rollback bounds h good b.key b.start x.0))
-  next_prewrite a may drew upto (inr (no0, inr (no1, inr (no2, inr (no3, inl (c, own, e)))))) =
+  next_prewrite a may upto (inr (no0, inr (no1, inr (no2, inr (no3, inl (c, own, e)))))) =
       silent a (AlreadyCommitted c) e
       (still (AlreadyCommitted c) refl refl (true_commit bounds h good b.key b.start c own))
-  next_prewrite a may drew upto (inr (no0, inr (no1, inr (no2, inr (no3, inr (no4, inl (lock, at, e))))))) =
+  next_prewrite a may upto (inr (no0, inr (no1, inr (no2, inr (no3, inr (no4, inl (lock, at, e))))))) =
       silent a (KeyIsLocked (info_of b.key lock)) e (still (KeyIsLocked (info_of b.key lock)) refl refl tt)
-  next_prewrite a may drew upto
+  next_prewrite a may upto
       (inr (no0, inr (no1, inr (no2, inr (no3, inr (no4, inr (no5, inl (some, (start, c, newest, e))))))))) =
       silent a (WriteConflict start c) e (still (WriteConflict start c) refl refl
       (overtakes bounds h good b.key b.start start c newest.rec newest.stands newest.of
       (λ same. no4 c record { rec = newest.rec; stands = newest.stands; own = newest.of ∙ same }) newest.above))
-  next_prewrite a may drew upto (inr (no0, inr (no1, inr (no2, inr (no3, inr (no4, inr (no5, inr (no6, inl x)))))))) =
+  next_prewrite a may upto (inr (no0, inr (no1, inr (no2, inr (no3, inr (no4, inr (no5, inr (no6, inl x)))))))) =
       silent a AlreadyExists x.1 (still AlreadyExists refl refl (value_seen x.0.1 no5 no0))
-  next_prewrite a may drew upto
+  next_prewrite a may upto
       (inr (no0, inr (no1, inr (no2, inr (no3, inr (no4, inr (no5, inr (no6, inr (no7, rest))))))))) = last_rows rest
     where
       i : Inv (view bounds h)
@@ -405,21 +404,6 @@ module _ (bounds : List Key) (h : History) (good : Good bounds h) (b : Prewrite)
       as_declared async d e two =
           (let same : may.of ≡ d = some_same may.of d (sym may.stands ∙ e) in (cc (async, may.mode, same, two)))
 
-      of_declared : (d : Declaration) → declared h b.start ≡ Some d → may.of ≡ d
-      of_declared d e = some_same may.of d (sym may.stands ∙ e)
-
-      -- the number that was drawn for the declaration is at most the last one, and lies below the
-      -- floor of an async one
-      drawn_upto : (d : Declaration) → declared h b.start ≡ Some d → d.drawn ≤ last h
-      drawn_upto d e = omega (arith, drew, ap (λ (x : Declaration). x.drawn) (of_declared d e))
-
-      below_floor : b.mode ≡ Async → (d : Declaration) → declared h b.start ≡ Some d → d.drawn < b.floor
-      below_floor async d e =
-          (let above : floor_of may.of ≡ may.of.drawn + 1 =
-          ap (λ (m : Mode). elim m as (λ _. ℕ) [ TwoPhase ↦ 0 | Async ↦ may.of.drawn + 1 ]) (sym may.mode
-          ∙ async) in
-          omega (arith, may.floor, above, ap (λ (x : Declaration). x.drawn) (of_declared d e)))
-
       -- a two-phase lock is put
       two_phase : Next bounds h (took (route bounds b.key) (body.Prewrite b) l (Prewritten 0))
       two_phase =
@@ -428,8 +412,7 @@ module _ (bounds : List Key) (h : History) (good : Good bounds h) (b : Prewrite)
           let most : last h + 1 ≤ last h + 1 = omega arith in
           putting 0 (λ reads j read. may_lock (checked_view 0 reads) b.key (lock_of b 0) j from_safe no4 no3 no5 low
           does
-          above least most (λ e. absurd (cc (e))) (λ d e x. refl)
-          (λ d e. (let after : d.drawn < last h + 1 = omega (arith, drawn_upto d e) in after)) checked_none read)
+          above least most (λ e. absurd (cc (e))) (λ d e x. refl) checked_none read)
 
       -- an async lock is put
       async : b.mode ≡ Async → (m : ℕ) → MayPromise (left h (route bounds b.key)).max_read (last h) b m
@@ -445,8 +428,6 @@ module _ (bounds : List Key) (h : History) (good : Good bounds h) (b : Prewrite)
           let least : max (left h (route bounds b.key)).max_read b.start + 1 ≤ least_minimum
           (left h (route bounds b.key)).max_read b =
           le-max_left (max (left h (route bounds b.key)).max_read b.start + 1) b.floor in
-          let own : b.floor ≤ least_minimum (left h (route bounds b.key)).max_read b =
-          le-max_right (max (left h (route bounds b.key)).max_read b.start + 1) b.floor in
           let start : b.start ≤ max (left h (route bounds b.key)).max_read b.start =
           le-max_right (left h (route bounds b.key)).max_read b.start in
           let above : b.start < lock.min = omega (arith, promise.0, least, start, min_is) in
@@ -454,8 +435,7 @@ module _ (bounds : List Key) (h : History) (good : Good bounds h) (b : Prewrite)
           let most : bound (accepting (view bounds h) lock) ≤ last h + 1 = omega (arith, promise.1, bound_is, min_is) in
           let after : floor (Prewritten m) b.key < lock.min = omega (arith, promise.0, least, raised, min_is) in
           putting m (λ reads j read. may_lock (checked_view m reads) b.key lock j from_safe no4 no3 no5 low does above
-          bounded most (λ e. after) (λ d e two. absurd (as_declared mode d e two))
-          (λ d e. omega (arith, below_floor mode d e, own, promise.0, min_is, bound_is)) checked_none read)
+          bounded most (λ e. after) (λ d e two. absurd (as_declared mode d e two)) checked_none read)
 
       last_rows : Case (b.mode ≡ Async) ((m : ℕ) × MayPromise (left h (route bounds b.key)).max_read (last h) b m
           × Case (IsWithin b.max_commit m) (a ≡ Prewritten m) (a ≡ Prewritten 0)) (a ≡ Prewritten 0)

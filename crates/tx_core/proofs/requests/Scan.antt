@@ -14,7 +14,7 @@ use Rattle.tx_plan.specs.Reads.{Blocks, Reads, Walked, in_range, covered}
 use Rattle.tx_plan.specs.cases.Scan.{AnswersScan}
 use Rattle.tx_types.specs.Keys.{value_in, reaches}
 use Rattle.tx_core.specs.Histories.{History, last, left}
-use Rattle.tx_core.specs.Decisions.{decided}
+use Rattle.tx_core.specs.Decisions.{accepted, decided}
 use Rattle.tx_core.specs.Worlds.{route, Holds}
 use Rattle.tx_core.specs.Shadow.{shadow}
 use Rattle.tx_core.proofs.view.View.{View}
@@ -46,7 +46,7 @@ module _ (bounds : List Key) (h : History) (good : Good bounds h) (n : ℕ) (b :
 
   -- the rows of a walk that met no lock; each key of the range lies in the region
   gives : Holds bounds n (body.Scan b) → b.at ≤ last h → (left h n).safe ≤ b.at
-      → ((t : ℕ) → Contains b.bypass t → Passes (decided h) (shown_in h) b.at t) → (rows : List KeyValue)
+      → ((t : ℕ) → Contains b.bypass t → Passes (decided h) (accepted h) (shown_in h) b.at t) → (rows : List KeyValue)
       → length rows ≤ b.limit → Walked (left h n).cells b.at b.bypass (covered b rows) rows
       → Next bounds h (took n (body.Scan b) l (Rows rows))
   gives holds upto fresh may rows few walked =
@@ -74,7 +74,7 @@ module _ (bounds : List Key) (h : History) (good : Good bounds h) (n : ℕ) (b :
       (walked_rows (shadow h) w b rows (raised_view (Rows rows)) upto low here may few same)
 
   pub next_scan : (a : Answer) → Holds bounds n (body.Scan b)
-      → ((t : ℕ) → Contains b.bypass t → Passes (decided h) (shown_in h) b.at t) → l ≤ last h
+      → ((t : ℕ) → Contains b.bypass t → Passes (decided h) (accepted h) (shown_in h) b.at t) → l ≤ last h
       → AnswersScan (left h n).cells (left h n).safe l b a → Next bounds h (took n (body.Scan b) l a)
   next_scan a holds may upto (inl x) =
       silent a (BelowSafePoint (left h n).safe) x.1

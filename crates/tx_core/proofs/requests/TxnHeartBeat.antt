@@ -1,12 +1,12 @@
 -- A region answers a heartbeat: the transaction's lock lives longer, and nothing else changes.
-use Rattle.std.proofs.Common.{◌≡◌, ◌≢◌, ℕ, ◌++◌, inl, inr, max, List, None, refl, sym, ap, subst}
+use Rattle.std.proofs.Common.{◌≡◌, ℕ, ◌++◌, inl, inr, max, List, refl, sym, ap, subst}
 use Rattle.tx_plan.specs.declared.body.TxnHeartBeat.{TxnHeartBeat}
 use Rattle.tx_plan.specs.declared.body.Body.TheVariants as body
 use Rattle.tx_plan.specs.declared.answer.Answer.{Answer}
 use Rattle.tx_plan.specs.declared.answer.Answer.TheVariants.{Ttl, TxnLockNotFound, BelowSafePoint}
 use Rattle.tx_plan.specs.cases.TxnHeartBeat.{AnswersTxnHeartBeat}
 use Rattle.tx_types.specs.declared.key.Key.{Key}
-use Rattle.tx_core.specs.Histories.{History, declared, left}
+use Rattle.tx_core.specs.Histories.{History, left}
 use Rattle.tx_core.specs.Decisions.{NoEffect, accepted, decided}
 use Rattle.tx_core.specs.Worlds.{route}
 use Rattle.tx_core.specs.Shadow.{shadow}
@@ -49,17 +49,17 @@ module _ (bounds : List Key) (h : History) (good : Good bounds h) (b : TxnHeartB
       (ends_lengthen (view bounds h) b.key b.start ttl good.ends)
       tt
 
-  pub next_heart_beat : (a : Answer) → declared h b.start ≢ None
+  pub next_heart_beat : (a : Answer)
       → AnswersTxnHeartBeat (cells_at bounds h b.key) (left h (route bounds b.key)).collected b a
       → Next bounds h (took (route bounds b.key) (body.TxnHeartBeat b) l a)
-  next_heart_beat a may (inl x) =
+  next_heart_beat a (inl x) =
       silent a (BelowSafePoint (left h (route bounds b.key)).collected) x.1
       (quiet bounds h good b.key (body.TxnHeartBeat b) l (BelowSafePoint (left h (route bounds b.key)).collected)
       b.start (λ c. leaves_on c (body.TxnHeartBeat b) (BelowSafePoint (left h (route bounds b.key)).collected))
       (on_key (BelowSafePoint (left h (route bounds b.key)).collected)) refl (λ u n. refl) refl tt)
-  next_heart_beat a may (inr (no0, inl (lock, own, e))) =
+  next_heart_beat a (inr (no0, inl (lock, own, e))) =
       silent a (Ttl (max lock.ttl b.ttl)) e (lives (max lock.ttl b.ttl))
-  next_heart_beat a may (inr (no0, inr (no1, e))) =
+  next_heart_beat a (inr (no0, inr (no1, e))) =
       silent a TxnLockNotFound e
       (quiet bounds h good b.key (body.TxnHeartBeat b) l TxnLockNotFound b.start
       (λ c. leaves_on c (body.TxnHeartBeat b) TxnLockNotFound) (on_key TxnLockNotFound) refl (λ u n. refl) refl tt)

@@ -1,7 +1,8 @@
--- What holds of every history, by induction.
-use Rattle.std.proofs.Common.{◌≡◌, ℕ, ◌≤◌, inl, inr, List, [], ◌∷◌, Option, Some, refl, sym, ap, subst, ◌∙◌, arith}
+-- What holds of every legal run, by induction, and so of every world run.
+use Rattle.std.proofs.Common.{◌≡◌, ℕ, ◌<◌, ◌≤◌, inl, inr, List, [], ◌∷◌, Option, Some, refl, sym, ap, subst, ◌∙◌, arith}
 use Rattle.std.specs.Prelude.{Contains}
 use Rattle.tx_types.specs.declared.key.Key.{Key}
+use Rattle.tx_types.specs.declared.lock.LockInfo.{LockInfo}
 use Rattle.tx_types.specs.declared.mutation.Fate.{Fate}
 use Rattle.tx_machine.specs.Machine.{State, Open, Done, Table, table_of, IsRun}
 use Rattle.tx_plan.specs.declared.body.Body.{Body}
@@ -14,15 +15,15 @@ use Rattle.tx_core.specs.declared.event.Event.{Event}
 use Rattle.tx_core.specs.declared.event.Event.TheVariants.{Drawn, Began, Declared, Answered, Stopped, Took}
 use Rattle.tx_core.specs.Histories.{History, last, set_at, left}
 use Rattle.tx_core.specs.Decisions.{effect_in, accepted, decision, first_decided, decided, fate_in}
-use Rattle.tx_core.specs.Allowed.{AllowsRead, Allowed}
-use Rattle.tx_core.specs.Worlds.{Holds, MayTake, MayCome, IsWorldRun}
+use Rattle.tx_core.specs.Laws.{WasToldOf}
+use Rattle.tx_core.specs.Worlds.{Holds, IsWorldRun}
+use Rattle.tx_core.specs.Legal.{IsLegalRead, IsLegalRequest, IsLegallyTaken, IsLegal, IsLegalRun}
 use Rattle.tx_core.specs.Shadow.{shadow}
 use Rattle.tx_core.specs.Truth.{HasEnded, EndsBy, IsTrueAnswer}
-use Rattle.tx_core.proofs.view.View.{View}
+use Rattle.tx_core.proofs.view.View.{View, LiesBelow}
 use Rattle.tx_core.proofs.changes.Reads.{Passes}
 use Rattle.tx_core.proofs.view.Tables.{Shows, ended_decided}
 use Rattle.tx_core.proofs.view.HistoryView.{shown_in, view}
-use Rattle.tx_core.proofs.seats.Stays.{declared_drew}
 use Rattle.tx_core.proofs.requests.Good.{true_end, Good, Next, took}
 use Rattle.tx_core.proofs.requests.Get.{next_get}
 use Rattle.tx_core.proofs.requests.Scan.{next_scan}
@@ -36,7 +37,8 @@ use Rattle.tx_core.proofs.requests.ResolveLock.{next_resolve}
 use Rattle.tx_core.proofs.requests.RaiseSafe.{next_raise_safe}
 use Rattle.tx_core.proofs.requests.LocksBelow.{next_locks_below}
 use Rattle.tx_core.proofs.requests.Collect.{next_collect}
-use Rattle.tx_core.proofs.locks.Shown.{ToldShown, told_first, told_next, shown_above}
+use Rattle.tx_core.proofs.locks.Shown.{ToldShown, told_first, told_next, told_promised}
+use Rattle.tx_core.proofs.runs.Legal.{legal_run}
 use Rattle.tx_core.proofs.runs.Events.{good_first, good_drawn, good_began, good_declared, good_answered, good_stopped}
 
 -- ---- an answer that tells of an end tells what is decided
@@ -77,62 +79,70 @@ still_decided h x t e end =
 
 -- ---- what a region takes
 
-module _ (bounds : List Key) (h : History) (run : IsWorldRun bounds h) (good : Good bounds h) (told :
-    ToldShown bounds h) where
+module _ (bounds : List Key) (h : History) (good : Good bounds h) (told : ToldShown bounds h) where
+  -- below the minimum of a lock that was told of
+  below : (info : LockInfo) → WasToldOf h info → (r : ℕ) → r < info.min
+      → LiesBelow (accepted h) (shown_in h) info.start r
+  below info was r low = elim (told_promised bounds h told info was) [
+    | inl x ↦ inr (omega (arith, x, low))
+    | inr x ↦ inl (x.0, x.1, x.2, omega (arith, x.3, low))
+  ]
+
   -- a read passes by the transactions that it may pass by
-  passes : (r : ℕ) (bypass : List ℕ) → AllowsRead h r bypass → (t : ℕ) → Contains bypass t
-      → Passes (decided h) (shown_in h) r t
+  passes : (r : ℕ) (bypass : List ℕ) → IsLegalRead h r bypass → (t : ℕ) → Contains bypass t
+      → Passes (decided h) (accepted h) (shown_in h) r t
   passes r bypass may t named =
       elim (may t named) [
         | inl gone ↦ inl gone
         | inr rest ↦ elim rest [
           | inl done ↦ inr (inl done)
-          | inr shown ↦ inr (inr (omega (arith, shown_above bounds h told t shown.0 shown.1, shown.2)))
+          | inr shown ↦ inr (inr (subst (λ u. LiesBelow (accepted h) (shown_in h) u r) shown.2 (below shown.0 shown.1 r
+              shown.3)))
         ]
       ]
 
-  next_taken : (n : ℕ) (body : Body) (l : ℕ) (a : Answer) → l ≤ last h → Allowed h body → Holds bounds n body
+  next_taken : (n : ℕ) (body : Body) (l : ℕ) (a : Answer) → l ≤ last h → IsLegalRequest h body → Holds bounds n body
       → Answers (left h n) l (last h) body a → Next bounds h (took n body l a)
-  next_taken n (Get b) l a upto allowed holds answers =
+  next_taken n (Get b) l a upto legal holds answers =
       subst (λ m. Next bounds h (took m (Get b) l a)) holds
-      (next_get bounds h good b l a (passes b.at b.bypass allowed) upto
+      (next_get bounds h good b l a (passes b.at b.bypass legal) upto
       (subst (λ m. Answers (left h m) l (last h) (Get b) a) (sym holds) answers))
-  next_taken n (Scan b) l a upto allowed holds answers =
-      next_scan bounds h good n b l a holds (passes b.at b.bypass allowed) upto answers
-  next_taken n (Prewrite b) l a upto allowed holds answers =
+  next_taken n (Scan b) l a upto legal holds answers =
+      next_scan bounds h good n b l a holds (passes b.at b.bypass legal) upto answers
+  next_taken n (Prewrite b) l a upto legal holds answers =
       subst (λ m. Next bounds h (took m (Prewrite b) l a)) holds
-      (next_prewrite bounds h good b l a allowed (declared_drew bounds h run b.start allowed.of allowed.stands) upto
+      (next_prewrite bounds h good b l a legal upto
       (subst (λ m. Answers (left h m) l (last h) (Prewrite b) a) (sym holds) answers))
-  next_taken n (Commit b) l a upto allowed holds answers =
+  next_taken n (Commit b) l a upto legal holds answers =
       subst (λ m. Next bounds h (took m (Commit b) l a)) holds
-      (next_commit bounds h good b l a allowed
+      (next_commit bounds h good b l a legal
       (subst (λ m. Answers (left h m) l (last h) (Commit b) a) (sym holds) answers))
-  next_taken n (BatchRollback b) l a upto allowed holds answers =
+  next_taken n (BatchRollback b) l a upto legal holds answers =
       subst (λ m. Next bounds h (took m (BatchRollback b) l a)) holds
-      (next_rollback bounds h good b l a allowed
+      (next_rollback bounds h good b l a legal
       (subst (λ m. Answers (left h m) l (last h) (BatchRollback b) a) (sym holds) answers))
-  next_taken n (TxnHeartBeat b) l a upto allowed holds answers =
+  next_taken n (TxnHeartBeat b) l a upto legal holds answers =
       subst (λ m. Next bounds h (took m (TxnHeartBeat b) l a)) holds
-      (next_heart_beat bounds h good b l a allowed
+      (next_heart_beat bounds h good b l a
       (subst (λ m. Answers (left h m) l (last h) (TxnHeartBeat b) a) (sym holds) answers))
-  next_taken n (CheckTxnStatus b) l a upto allowed holds answers =
+  next_taken n (CheckTxnStatus b) l a upto legal holds answers =
       subst (λ m. Next bounds h (took m (CheckTxnStatus b) l a)) holds
-      (next_check_status bounds h good b l a allowed
+      (next_check_status bounds h good b l a legal
       (subst (λ m. Answers (left h m) l (last h) (CheckTxnStatus b) a) (sym holds) answers))
-  next_taken n (CheckSecondaryLocks b) l a upto allowed holds answers =
+  next_taken n (CheckSecondaryLocks b) l a upto legal holds answers =
       subst (λ m. Next bounds h (took m (CheckSecondaryLocks b) l a)) holds
-      (next_check_secondary bounds h good b l a allowed
+      (next_check_secondary bounds h good b l a legal
       (subst (λ m. Answers (left h m) l (last h) (CheckSecondaryLocks b) a) (sym holds) answers))
-  next_taken n (ResolveLock b) l a upto allowed holds answers =
+  next_taken n (ResolveLock b) l a upto legal holds answers =
       subst (λ m. Next bounds h (took m (ResolveLock b) l a)) holds
-      (next_resolve bounds h good b l a allowed
+      (next_resolve bounds h good b l a legal
       (subst (λ m. Answers (left h m) l (last h) (ResolveLock b) a) (sym holds) answers))
-  next_taken n (RaiseSafe b) l a upto allowed holds answers = next_raise_safe bounds h good n l b a answers
-  next_taken n (LocksBelow b) l a upto allowed holds answers = next_locks_below bounds h good n l b a answers
-  next_taken n (Collect b) l a upto allowed holds answers = next_collect bounds h good n l b a answers
+  next_taken n (RaiseSafe b) l a upto legal holds answers = next_raise_safe bounds h good n l b a answers
+  next_taken n (LocksBelow b) l a upto legal holds answers = next_locks_below bounds h good n l b a answers
+  next_taken n (Collect b) l a upto legal holds answers = next_collect bounds h good n l b a answers
 
-  pub next : (x : Taken) → MayTake bounds h x → Next bounds h x
-  next x may = next_taken x.region x.body x.loaded x.answer may.loaded may.allowed
+  pub next : (x : Taken) → IsLegallyTaken bounds h x → Next bounds h x
+  next x may = next_taken x.region x.body x.loaded x.answer may.loaded may.legal
       may.holds may.answers
 
   good_took : (x : Taken) → Next bounds h x → Good bounds (Took x ∷ h)
@@ -152,27 +162,39 @@ module _ (bounds : List Key) (h : History) (run : IsWorldRun bounds h) (good : G
 
   -- ---- every event
 
-  good_next : (e : Event) → MayCome bounds h e → Good bounds (e ∷ h)
+  good_next : (e : Event) → IsLegal bounds h e → Good bounds (e ∷ h)
   good_next (Drawn seat n) may = good_drawn bounds h good seat n may
   good_next (Began t) may = good_began bounds h good t may.0 may.1
   good_next (Declared d) may = good_declared bounds h good d may
-  good_next (Answered t o) may = good_answered bounds h good t o may.2
+  good_next (Answered t o) may = good_answered bounds h good t o may.1
   good_next (Stopped seat) may = good_stopped bounds h good seat
   good_next (Took x) may = good_took x (next x may)
 
 -- ---- every history
 
 -- what holds of a history, and of what was shown in it
-pub run_told : (bounds : List Key) (h : History) → IsWorldRun bounds h → Good bounds h × ToldShown bounds h
-run_told bounds [] run = (good_first bounds, told_first bounds)
-run_told bounds (e ∷ h) run =
-    let before = run_told bounds h run.0 in
-    (good_next bounds h run.0 before.0 before.1 e run.1, told_next bounds h before.0 before.1 e run.1)
+pub legal_told : (bounds : List Key) (h : History) → IsLegalRun bounds h → Good bounds h × ToldShown bounds h
+legal_told bounds [] run = (good_first bounds, told_first bounds)
+legal_told bounds (e ∷ h) run =
+    let before = legal_told bounds h run.0 in
+    (good_next bounds h before.0 before.1 e run.1, told_next bounds h before.0 before.1 e run.1)
 
-pub shadow_runs : (bounds : List Key) (h : History) → IsWorldRun bounds h → IsRun (shadow h)
-shadow_runs bounds h run = (run_told bounds h run).0.sound.run
+pub legal_shadow : (bounds : List Key) (h : History) → IsLegalRun bounds h → IsRun (shadow h)
+legal_shadow bounds h run = (legal_told bounds h run).0.sound.run
 
 -- what is decided is how the machine's transaction has ended
+pub legal_decisions : (bounds : List Key) (h : History) → IsLegalRun bounds h → (t : ℕ) (end : Fate)
+    → decided h t ≡ Done end → HasEnded (table_of (shadow h)) t end
+legal_decisions bounds h run t end is = true_end bounds h (legal_told bounds h run).0 t end is
+
+-- ---- every world run
+
+pub run_told : (bounds : List Key) (h : History) → IsWorldRun bounds h → Good bounds h × ToldShown bounds h
+run_told bounds h run = legal_told bounds h (legal_run bounds h run)
+
+pub shadow_runs : (bounds : List Key) (h : History) → IsWorldRun bounds h → IsRun (shadow h)
+shadow_runs bounds h run = legal_shadow bounds h (legal_run bounds h run)
+
 pub decisions_true : (bounds : List Key) (h : History) → IsWorldRun bounds h → (t : ℕ) (end : Fate)
     → decided h t ≡ Done end → HasEnded (table_of (shadow h)) t end
-decisions_true bounds h run t end is = true_end bounds h (run_told bounds h run).0 t end is
+decisions_true bounds h run = legal_decisions bounds h (legal_run bounds h run)

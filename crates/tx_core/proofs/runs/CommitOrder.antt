@@ -24,6 +24,7 @@ use Rattle.tx_core.proofs.view.View.{Inv, first_within, does_within}
 use Rattle.tx_core.proofs.view.HistoryView.{view}
 use Rattle.tx_core.proofs.runs.AllRuns.{run_told}
 use Rattle.tx_core.proofs.runs.Consequences.{told_fate}
+use Rattle.tx_core.proofs.runs.AboveDraw.{above_draw}
 use Rattle.tx_core.proofs.seats.Beginnings.{begins_all, kept_on, run_beginning}
 use Rattle.tx_core.proofs.seats.StaysDecided.{decided_on}
 
@@ -118,7 +119,7 @@ decided_in_order bounds h t u c e d run stands before end = go (set_at h t) refl
         omega (
           arith,
           decided_below bounds h run d.drawn u c before,
-          (i.acceptances t x.key of.0 of.1).after d stands,
+          above_draw bounds h run t x.key of.0 of.1 d stands,
           (i.commits t e end).bounds x.key of.0 of.1,
         )
 

@@ -28,7 +28,8 @@ use Rattle.tx_core.specs.declared.event.Event.{Event}
 use Rattle.tx_core.specs.declared.event.Event.TheVariants.{Drawn, Began, Declared, Answered, Stopped, Took}
 use Rattle.tx_core.specs.Histories.{History, last, set_of, set_at, left}
 use Rattle.tx_core.specs.Decisions.{Acceptance, Effect, Puts, Settles, RollsBack, NoEffect, effect, effect_in, accepted_by, accepted, decision, first_decided, decided}
-use Rattle.tx_core.specs.Worlds.{route, MayTake, MayCome, IsWorldRun}
+use Rattle.tx_core.specs.Worlds.{route, IsWorldRun}
+use Rattle.tx_core.specs.Legal.{IsLegallyTaken, IsLegal, IsLegalRun}
 use Rattle.tx_core.specs.Shadow.{deciding, deciding_in, checked, checking, shadow}
 use Rattle.tx_core.specs.Truth.{scan_read}
 use Rattle.tx_core.specs.EventSteps.{Decides, LocksInsert, reading, IsStepOf, Explains}
@@ -36,7 +37,9 @@ use Rattle.tx_core.proofs.Basics.{nat_test, key_true, some_same}
 use Rattle.tx_core.proofs.view.View.{Inv, never_accepted}
 use Rattle.tx_core.proofs.view.HistoryView.{view}
 use Rattle.tx_core.proofs.requests.Good.{took}
-use Rattle.tx_core.proofs.runs.Consequences.{inv_of, put_accepted}
+use Rattle.tx_core.proofs.runs.Legal.{legal_run}
+use Rattle.tx_core.proofs.runs.AllRuns.{legal_told}
+use Rattle.tx_core.proofs.runs.Consequences.{put_accepted}
 use Rattle.tx_core.proofs.runs.Truths.{true_next}
 use Rattle.tx_core.proofs.unique.KeyLists.{contains_none, contains_first, contains_cases}
 
@@ -199,14 +202,14 @@ is_prewritten cells (Commit b) (Committed c) t k is =
     ]
 is_prewritten cells body a t k is = absurd is
 
-module _ (bounds : List Key) (h : History) (run : IsWorldRun bounds h) where
+module _ (bounds : List Key) (h : History) (run : IsLegalRun bounds h) where
   -- the check of an insert whose lock this puts
-  module _ (b : PrewriteBody) (n l m : ℕ) (may : MayTake bounds h (took n (Prewrite b) l (Prewritten m))) where
+  module _ (b : PrewriteBody) (n l m : ℕ) (may : IsLegallyTaken bounds h (took n (Prewrite b) l (Prewritten m))) where
     abbrev x : Taken
     x = took n (Prewrite b) l (Prewritten m)
 
     declares : mutation_at (set_at h b.start) b.key ≡ Some b.mutation
-    declares = ap (λ o. mutation_at (set_of o) b.key) may.allowed.stands ∙ may.allowed.mutation
+    declares = ap (λ o. mutation_at (set_of o) b.key) may.legal.stands ∙ may.legal.mutation
 
     unaccepted : is_own ((left h n).cells b.key).lock b.start ≡ false → accepted h b.start b.key ≡ None
     unaccepted free = subst (λ q. is_own ((left h q).cells b.key).lock b.start ≡ false
@@ -214,7 +217,7 @@ module _ (bounds : List Key) (h : History) (run : IsWorldRun bounds h) where
         (Prewritten m) → accepted h b.start b.key ≡ None) may.holds go free may.answers
       where
         i : Inv (view bounds h)
-        i = inv_of bounds h run
+        i = (legal_told bounds h run).0.sound.inv
 
         go : is_own ((left h (route bounds b.key)).cells b.key).lock b.start ≡ false
             → AnswersPrewrite ((left h (route bounds b.key)).cells b.key) (left h (route bounds b.key)).safe l
@@ -273,14 +276,14 @@ module _ (bounds : List Key) (h : History) (run : IsWorldRun bounds h) where
           (has_only (step.Read b.key b.start None) (step.Read k t None) (cc (of.0, of.1)))))
     ]
 
-  check_step : (n : ℕ) (body : Body) (l : ℕ) (a : Answer) → MayTake bounds h (took n body l a) → (s : Step)
+  check_step : (n : ℕ) (body : Body) (l : ℕ) (a : Answer) → IsLegallyTaken bounds h (took n body l a) → (s : Step)
       → Contains (checking body (effect_in h (took n body l a))) s → IsStepOf h (Took (took n body l a)) s
   check_step n (Prewrite b) l (Prewritten m) may s has = prewrite_step b n l m may s has
   check_step n body l a may s has = absurd (contains_none s has)
 
   -- an effect that accepts a key is of a prewrite
-  insert_step : (n : ℕ) (body : Body) (l : ℕ) (a : Answer) → MayTake bounds h (took n body l a) → (t : ℕ) (k : Key)
-      → LocksInsert h (Took (took n body l a)) t k
+  insert_step : (n : ℕ) (body : Body) (l : ℕ) (a : Answer) → IsLegallyTaken bounds h (took n body l a)
+      → (t : ℕ) (k : Key) → LocksInsert h (Took (took n body l a)) t k
       → Contains (checking body (effect_in h (took n body l a))) (step.Read k t None)
   insert_step n (Prewrite b) l (Prewritten m) may t k is = locks_step b n l m may t k is
   insert_step n body l a may t k is = absurd (is_prewritten (left h n).cells body a t k
@@ -288,7 +291,7 @@ module _ (bounds : List Key) (h : History) (run : IsWorldRun bounds h) where
 
   -- ---- an event
 
-  module _ (x : Taken) (may : MayTake bounds h x) where
+  module _ (x : Taken) (may : IsLegallyTaken bounds h x) where
     abbrev ends : List Step
     ends = deciding_in h x (start_in x.body)
 
@@ -329,7 +332,7 @@ module _ (bounds : List Key) (h : History) (run : IsWorldRun bounds h) where
         among_ends t fate.Aborted (step.Abort t) is (has_only (step.Abort t) (step.Abort t) refl)
     has_step s is = absurd is
 
-  own_steps : (e : Event) → MayCome bounds h e → (own : List Step) × (shadow (e ∷ h) ≡ own ++ shadow h)
+  own_steps : (e : Event) → IsLegal bounds h e → (own : List Step) × (shadow (e ∷ h) ≡ own ++ shadow h)
       × ((s : Step) → Contains own s ↔ IsStepOf h e s)
   own_steps (Drawn seat n) may = (step.Draw n ∷ [], refl, λ s. (is_only (step.Draw n) s, has_only (step.Draw n) s))
   own_steps (Began t) may = (step.Begin t ∷ [], refl, λ s. (is_only (step.Begin t) s, has_only (step.Begin t) s))
@@ -362,8 +365,11 @@ module _ (bounds : List Key) (h : History) (run : IsWorldRun bounds h) where
 
 -- ---- every history
 
-pub explained : (bounds : List Key) (h : History) → IsWorldRun bounds h → Explains (shadow h) h
-explained bounds [] run = refl
-explained bounds (e ∷ h) run =
+pub legal_explained : (bounds : List Key) (h : History) → IsLegalRun bounds h → Explains (shadow h) h
+legal_explained bounds [] run = refl
+legal_explained bounds (e ∷ h) run =
     let own = own_steps bounds h run.0 e run.1 in
-    (own.0, shadow h, own.1, explained bounds h run.0, own.2, true_next bounds h e run)
+    (own.0, shadow h, own.1, legal_explained bounds h run.0, own.2, true_next bounds h e run)
+
+pub explained : (bounds : List Key) (h : History) → IsWorldRun bounds h → Explains (shadow h) h
+explained bounds h run = legal_explained bounds h (legal_run bounds h run)

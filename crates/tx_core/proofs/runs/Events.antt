@@ -11,7 +11,8 @@ use Rattle.tx_core.specs.declared.event.Event.{Event}
 use Rattle.tx_core.specs.declared.event.Event.TheVariants.{Drawn, Began, Declared, Answered, Stopped, Took}
 use Rattle.tx_core.specs.Histories.{History, last, drawer, began, declared, Among}
 use Rattle.tx_core.specs.Decisions.{decided}
-use Rattle.tx_core.specs.Worlds.{MayAnswer, MayDeclare}
+use Rattle.tx_core.specs.Worlds.{MayAnswer}
+use Rattle.tx_core.specs.Legal.{IsLegalDeclaration}
 use Rattle.tx_core.specs.Shadow.{answering, shadow}
 use Rattle.tx_core.specs.Truth.{IsTrueOutcome}
 use Rattle.tx_core.proofs.view.View.{IsCommitted, IsAborted}
@@ -54,7 +55,7 @@ module _ (bounds : List Key) (h : History) (good : Good bounds h) where
       quiet_event (Began t) (λ x e. (cc (e))) refl (sound_begin (shadow h) (view bounds h) t good.sound drawn new)
       good.ends
 
-  pub good_declared : (d : Declaration) → MayDeclare h d → Good bounds (Declared d ∷ h)
+  pub good_declared : (d : Declaration) → IsLegalDeclaration h d → Good bounds (Declared d ∷ h)
   good_declared d may =
       quiet_event (Declared d) (λ x e. (cc (e))) refl
       (sound_declare (shadow h) (view bounds h) d good.sound may.once may.begun may.some may.distinct)

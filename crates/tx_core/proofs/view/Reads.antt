@@ -41,7 +41,7 @@ contains_cases (x ∷ xs) n =
 -- where no lock blocks a read and it may pass by each transaction that it names, it meets no lock
 pub unblocked : (w : View) (covers : Key → Bool) (r : ℕ) (bypass : List ℕ)
     → ((k : Key) (lock : Lock) → IsTrue (covers k) → Blocks (w.cells k).lock r bypass lock → ⊥)
-    → ((t : ℕ) → Contains bypass t → Passes w.decided w.shown r t) → Unblocked w covers r
+    → ((t : ℕ) → Contains bypass t → Passes w.decided w.accepted w.shown r t) → Unblocked w covers r
 unblocked w covers r bypass free may k lock inside stands v =
     elim (cases_lt r lock.min) [
       | inl below ↦ inl below
@@ -55,7 +55,7 @@ unblocked w covers r bypass free may k lock inside stands v =
 module _ (steps : List Step) (w : View) (b : Scan) (rows : List KeyValue) (s : Sound steps w) (upto :
     b.at ≤ w.last) (fresh : (k : Key) → IsTrue (in_range b k) → w.collected k ≤ b.at) (here : (k : Key)
     → IsTrue (in_range b k) → b.at ≤ w.floor k) (may : (t : ℕ) → Contains b.bypass t
-    → Passes w.decided w.shown b.at t) (few : length rows ≤ b.limit) (walked :
+    → Passes w.decided w.accepted w.shown b.at t) (few : length rows ≤ b.limit) (walked :
     Walked w.cells b.at b.bypass (reads.covered b rows) rows) where
   in_its_range : (k : Key) → IsTrue (covered (scan_read b rows) k) → IsTrue (in_range b k)
   in_its_range k inside = (and_parts (in_range b k) (nat_lt (length rows) b.limit || reaches rows k) inside).0

@@ -216,7 +216,7 @@ may_commit table w t c i s may =
           let does = does_to k m e in
           let by = some_of (w.accepted t k) (may.accepts k (does_within w.declared t k (as_locked m) does)) in
           elim (i.unread t k by.0 by.1 may.opened (as_locked m) does (visible_locked m v) r (s.reads k r read))
-          [ inl x ↦ omega (arith, x, may.bounds k by.0 by.1) | inr x ↦ omega (arith, x, may.shown) ];
+          [ inl x ↦ omega (arith, x.3, may.bounds x.0 x.1 x.2) | inr x ↦ omega (arith, x, may.shown) ];
       fresh = λ k v e.
           let does = does_to k (mutation.Insert v) e in
           let own = (i.keys k).kept.held t (may.accepts k (does_within w.declared t k (mutation.Put v) does))
@@ -258,7 +258,10 @@ module _ (table : Table) (w : View) (covers : Key
           | inl gone ↦ (cc (gone, own))
           | inr rest ↦ elim rest [
             | inl done ↦ (let at : done.0 ≡ c = cc (done.1, own) in omega (arith, done.2, at, upto))
-            | inr shown ↦ omega (arith, shown, (i.commits x.lock.start c own).shows, upto)
+            | inr low ↦ elim low [
+              | inl y ↦ omega (arith, y.3, (i.commits x.lock.start c own).bounds y.0 y.1 y.2, upto)
+              | inr y ↦ omega (arith, y, (i.commits x.lock.start c own).shows, upto)
+            ]
           ]
         ]
       ]

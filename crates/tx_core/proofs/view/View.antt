@@ -127,7 +127,7 @@ pub record Marks (last : ℕ) (reads : List Reading) (floor safe collected : Key
 
 -- An accepted lock does what was declared. Its minimum lies above the start, and its bound is at
 -- least that and at most one above the last number then. Where its transaction was declared
--- two-phase, it is so too; it lies above the number that was drawn for the declaration.
+-- two-phase, it is so too.
 pub record IsAccepted (last : ℕ) (declared : ℕ → Option Declaration) (t : ℕ) (k : Key) (by : Acceptance) : Type 0 where
   pub does : Does declared t k by.lock.mutation
   pub above : t < by.lock.min
@@ -135,7 +135,6 @@ pub record IsAccepted (last : ℕ) (declared : ℕ → Option Declaration) (t : 
   pub upto : bound by ≤ by.at + 1
   pub at : by.at ≤ last
   pub mode : (d : Declaration) → declared t ≡ Some d → d.mode ≡ TwoPhase → by.lock.mode ≡ TwoPhase
-  pub after : (d : Declaration) → declared t ≡ Some d → d.drawn < bound by
 
 -- A lock that stands was accepted, and does what was declared. It has the mode of its acceptance,
 -- and the minimum too, but on the primary, where it has the greatest that was shown.
@@ -213,16 +212,21 @@ pub record ShownOf (declared : ℕ → Option Declaration) (accepted : ℕ → K
   pub first : (t : ℕ) (k : Key) (by : Acceptance) → IsPrimary declared t k → accepted t k ≡ Some by
       → (FellBack accepted t → ⊥) → shown t ≡ by.lock.min
 
+-- a number lies below what a transaction may commit at: below the bound of one of its keys, or
+-- below a minimum that was shown
+abbrev pub LiesBelow : (ℕ → Key → Option Acceptance) → (ℕ → ℕ) → ℕ → ℕ → Type 0
+LiesBelow accepted shown t r = ((k : Key) × (by : Acceptance) × (accepted t k ≡ Some by) × (r < bound by))
+    ⊎ (r < shown t)
+
 pub record Inv (w : View) : Type 0 where
   pub clock : Clock w.last w.drawer w.began w.declared w.decided
   pub marks : Marks w.last w.reads w.floor w.safe w.collected
   pub acceptances : (t : ℕ) (k : Key) (by : Acceptance) → w.accepted t k ≡ Some by → IsAccepted w.last w.declared t k by
   pub keys : (k : Key) → OnCells w.declared w.decided w.accepted w.shown k (w.collected k) (w.cells k)
   pub commits : (t c : ℕ) → IsCommitted w.decided t c → IsCommit w.last w.declared w.accepted w.shown t c
-  -- a read of what an open transaction changes lies below its bound there, or below a
-  -- minimum that was shown
+  -- a read of what an open transaction changes lies below what it may commit at
   pub unread : (t : ℕ) (k : Key) (by : Acceptance) → w.accepted t k ≡ Some by → w.decided t ≡ Open → (m : Mutation)
-      → Does w.declared t k m → IsVisible m → (r : ℕ) → IsRead w.reads k r → (r < bound by) ⊎ (r < w.shown t)
+      → Does w.declared t k m → IsVisible m → (r : ℕ) → IsRead w.reads k r → LiesBelow w.accepted w.shown t r
   -- the check of what an accepted insert puts was a read at its start
   pub checks : (t : ℕ) (k : Key) (by : Acceptance) → w.accepted t k ≡ Some by → (v : Value)
       → Inserts w.declared t k v → IsRead w.reads k t

@@ -140,3 +140,65 @@ fn a_view_is_spared(rt: HostRuntime) -> Result<(), Fail> {
     assert!(rt; matches!(told, Ok(Some(true))));
     Ok(())
 }
+
+/// A timestamp is kept over updates and collections; then a client collects by itself.
+#[derive(Drop)]
+struct Kept;
+
+// What is seen at a timestamp that is kept while others are written and collected, whether the
+// collection rose to it, and whether it can be read no more once it is let go.
+fn spared<J: JournalId, R: Wait>(client: &mut Client<'_, J, R>) -> Option<(u8, bool, bool)> {
+    drop(client.update(&mut Put(1)).ok()?);
+    let Ok(pin) = client.pin() else {
+        return None;
+    };
+    drop(client.update(&mut Put(2)).ok()?);
+    drop(client.update(&mut Put(3)).ok()?);
+    client.timestamp().ok()?;
+    let collected = client.collect(Ts::new(u64::MAX)).ok()?;
+    let at = pin.at();
+    let held = collected.safe == at && client.stats().oldest == Some(at);
+    let before = byte_at(client, at).ok()??;
+    drop(pin);
+    let _ = client.collect(Ts::new(u64::MAX)).ok()?;
+    let gone = matches!(byte_at(client, at), Err(Stop::BelowSafePoint));
+    Some((before, held, gone))
+}
+
+// Whether a client that is to collect after each two updates has collected, and what it counted.
+fn collected_itself<J: JournalId, R: Wait>(client: &mut Client<'_, J, R>) -> Option<bool> {
+    let before = client.stats();
+    client.collect_every(2);
+    for byte in 4..10u8 {
+        let updated = client.update(&mut Put(byte)).ok()?;
+        if updated.retries != 0 {
+            return None;
+        }
+    }
+    let stats = client.stats();
+    let wrote = stats.commits.checked_sub(before.commits)? == 6 && stats.retries == 0;
+    Some(wrote && stats.collections.checked_sub(before.collections)? == 2 && stats.dropped > 0)
+}
+
+impl<R: Wait> Program<R> for Kept {
+    type Out = ();
+
+    type Answer = Option<bool>;
+
+    fn run<J: JournalId>(&self, client: &mut Client<'_, J, R>) {
+        let _ = client;
+    }
+
+    fn end<J: JournalId>(self, client: &mut Client<'_, J, R>, _: Vec<()>) -> Option<bool> {
+        let seen = spared(client)?;
+        let collected = collected_itself(client)?;
+        Some(seen == (1, true, true) && collected)
+    }
+}
+
+#[test]
+fn a_timestamp_is_kept(rt: HostRuntime) -> Result<(), Fail> {
+    let told = with_store(&rt, rt.alloc(), &[b"m"], 1, Kept);
+    assert!(rt; matches!(told, Ok(Some(true))));
+    Ok(())
+}

@@ -2,7 +2,7 @@
 use std::sync::Wait;
 use std::test::Fail;
 use tx_kv::{
-    Client, Failure, JournalId, Key, KeyValues, Mode, Program, Stop, Terms, Ts, Tx, Value, Work,
+    Client, Failure, JournalId, Key, KeyRange, Mode, Program, Stop, Terms, Ts, Tx, Value, Work,
     with_store,
 };
 
@@ -42,31 +42,82 @@ impl Work for Fill {
 #[derive(Drop)]
 struct Look;
 
-fn count(rows: &KeyValues) -> usize {
-    rows.as_slice().len()
-}
-
 impl Work for Look {
     type Out = [usize; 6];
 
     type Err = ();
 
     fn apply<T: Tx>(&mut self, tx: &mut T) -> Result<[usize; 6], Failure<()>> {
-        let before = count(&tx.range(None, None)?);
+        let before = tx.range(None, None)?.len();
         tx.delete(key_of(tx, 3)?)?;
         tx.lock(key_of(tx, 7)?)?;
         put(tx, 1_500)?;
-        let after = count(&tx.range(None, None)?);
+        let after = tx.range(None, None)?.len();
         let (from, to) = (key_of(tx, 2)?, key_of(tx, 8)?);
-        let part = count(&tx.range(Some(from), Some(to))?);
+        let part = tx.range(Some(from), Some(to))?.len();
         let last = key_of(tx, 1_190)?;
-        let rest = count(&tx.range(Some(last), None)?);
+        let rest = tx.range(Some(last), None)?.len();
         let first = key_of(tx, 1_100)?;
-        let low = count(&tx.range(None, Some(first))?);
+        let low = tx.range(None, Some(first))?.len();
         let (from, to) = (key_of(tx, 8)?, key_of(tx, 2)?);
-        let none = count(&tx.range(Some(from), Some(to))?);
+        let none = tx.range(Some(from), Some(to))?.len();
         Ok([before, after, part, rest, low, none])
     }
+}
+
+// How many rows the pages of a range have, and how many pages there are.
+fn paged<T: Tx>(tx: &mut T, range: KeyRange, limit: u32) -> Result<[usize; 2], Stop> {
+    let mut found = [0usize; 2];
+    let mut rest = Some(range);
+    for _ in 0..u16::MAX {
+        let Some(range) = rest.take() else {
+            break;
+        };
+        let page = tx.page(range, limit)?;
+        found = [
+            found[0].saturating_add(page.rows.len()),
+            found[1].saturating_add(1),
+        ];
+        rest = page.rest;
+    }
+    Ok(found)
+}
+
+/// Deletes row 3, puts 1,500, and goes over all rows by pages of 100; and over those of a prefix.
+#[derive(Drop)]
+struct Turn;
+
+impl Work for Turn {
+    type Out = ([usize; 2], [usize; 2]);
+
+    type Err = ();
+
+    fn apply<T: Tx>(&mut self, tx: &mut T) -> Result<([usize; 2], [usize; 2]), Failure<()>> {
+        tx.delete(key_of(tx, 3)?)?;
+        put(tx, 1_500)?;
+        let all = paged(tx, KeyRange::new(tx.alloc(), None, None)?, 100)?;
+        let some = paged(tx, KeyRange::prefix(tx.alloc(), b"k\x02")?, 100)?;
+        Ok((all, some))
+    }
+}
+
+// How many rows the pages of a view have.
+fn pages_seen<J: JournalId, R: Wait>(client: &mut Client<'_, J, R>) -> Result<[usize; 2], Stop> {
+    let mut rest = Some(KeyRange::prefix(client.alloc(), b"k")?);
+    let mut view = client.view()?;
+    let mut found = [0usize; 2];
+    for _ in 0..u16::MAX {
+        let Some(range) = rest.take() else {
+            break;
+        };
+        let page = view.page(range, 100)?;
+        found = [
+            found[0].saturating_add(page.rows.len()),
+            found[1].saturating_add(1),
+        ];
+        rest = page.rest;
+    }
+    Ok(found)
 }
 
 // How many rows a client sees as it is now, and before it wrote the second half.
@@ -76,11 +127,11 @@ fn rows_seen<J: JournalId, R: Wait>(
 ) -> Result<[usize; 4], Stop> {
     let from = Key::new(client.alloc(), b"k\x02")?;
     let to = Key::new(client.alloc(), b"k\x04")?;
-    let now = count(&client.view()?.range(None, None)?);
-    let before = count(&client.view_at(half).range(None, None)?);
+    let now = client.view()?.range(None, None)?.len();
+    let before = client.view_at(half).range(None, None)?.len();
     let mut view = client.view()?;
-    let part = count(&view.range(Some(from.clone()?), Some(to.clone()?))?);
-    let none = count(&view.range(Some(to), Some(from))?);
+    let part = view.range(Some(from.clone()?), Some(to.clone()?))?.len();
+    let none = view.range(Some(to), Some(from))?.len();
     Ok([now, before, part, none])
 }
 
@@ -109,7 +160,14 @@ impl<R: Wait> Program<R> for Story {
         let looked = client.update(&mut Look).ok()?;
         let found = looked.value;
         let seen = rows_seen(client, half).ok()?;
-        Some(found == [1_200, 1_200, 5, 11, 1_099, 0] && seen == [1_200, 600, 512, 0])
+        let turned = client.update(&mut Turn).ok()?.value;
+        let paged = pages_seen(client).ok()?;
+        Some(
+            found == [1_200, 1_200, 5, 11, 1_099, 0]
+                && seen == [1_200, 600, 512, 0]
+                && turned == ([1_200, 12], [256, 3])
+                && paged == [1_200, 13],
+        )
     }
 }
 

@@ -1,6 +1,8 @@
 //! Cases of updates.
 use crate::simple_tests::cases::Before::{Empty, Lock, Rival, Value};
-use crate::simple_tests::works::Deed::{self, GiveUp, Insert, Put, PutBoth, PutOnce, Read};
+use crate::simple_tests::works::Deed::{
+    self, GiveUp, Insert, Put, PutAndGiveUp, PutBoth, PutOnce, Read,
+};
 use tx_harness::Delivery::{self, Late, Lose, LoseReply, Refuse, Repeat};
 use tx_types::Mode::{self, Async, TwoPhase};
 
@@ -69,6 +71,9 @@ pub const CASES: &[Case] = &[
     // What it gives up, or what a later try does not help, is not.
     Case(Empty, PLAIN, (GiveUp, Async), 3, GIVEN_UP, 1, 0),
     Case(Value, PLAIN, (Insert(1), Async), 3, EXISTS, 1, 5),
+    // What it has entered before it gives up is not written.
+    Case(Empty, PLAIN, (PutAndGiveUp(1), Async), 3, GIVEN_UP, 1, 0),
+    Case(Value, PLAIN, (PutAndGiveUp(1), TwoPhase), 3, GIVEN_UP, 1, 5),
     // A lock past its time is rolled back; one that lives is waited for by a write, and passed by a
     // read.
     Case(Lock(0), PLAIN, (Put(1), TwoPhase), 0, DONE, 1, 1),

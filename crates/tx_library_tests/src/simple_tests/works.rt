@@ -25,6 +25,8 @@ pub enum Deed {
     Read,
     /// It gives up.
     GiveUp,
+    /// It puts this byte there, and gives up.
+    PutAndGiveUp(u8),
     /// It puts this byte there, and does not go on after the first try.
     PutOnce(u8),
 }
@@ -106,11 +108,15 @@ impl<'a, J: JournalId, F: Families + Drop, R: Wait> Work for Doing<'a, J, F, R> 
             }
             Deed::Read => self.read = read(tx)?,
             Deed::GiveUp => return Err(Failure::Own(GaveUp)),
+            Deed::PutAndGiveUp(byte) => {
+                put(tx, b"a", byte)?;
+                return Err(Failure::Own(GaveUp));
+            }
         }
         Ok(())
     }
 
-    fn may_go_on(&self, tries: u32) -> bool {
+    fn may_go_on(&self, tries: u32, _last: &Stop) -> bool {
         tries < 1 || !matches!(self.deed, Deed::PutOnce(_))
     }
 }
@@ -134,9 +140,9 @@ fn words<E>(outcome: &Outcome, stop: Option<&Failure<E>>) -> (&'static str, &'st
 // Why a transaction was stopped, in a word.
 fn word(stop: &Stop) -> &'static str {
     match stop {
-        Stop::Waits(_) => "waits",
-        Stop::Conflict => "conflict",
-        Stop::AlreadyExists => "exists",
+        Stop::Waits(..) => "waits",
+        Stop::Conflict(_) | Stop::RolledBack => "conflict",
+        Stop::AlreadyExists(_) => "exists",
         Stop::BelowSafePoint => "below",
         Stop::Lost => "lost",
         Stop::Refused(_) => "refused",

@@ -1,9 +1,11 @@
-//! A region shows what it keeps of a key, with no event.
+//! A region shows what it keeps of a key, and the network what it holds, with no event.
+ghost use Rattle.std.specs.Prelude.{◌≡◌, option_map};
 ghost use Rattle.tx_core.specs.Worlds.{route};
-ghost use Rattle.tx_network.specs.Networks.{Showed, Displays};
+ghost use Rattle.tx_network.specs.Networks.{Showed, Displays, body_at};
 
 use super::Network;
 use tx_cells::{Families, ShownKey};
+use tx_core::Body;
 use tx_journal::{JournalId, Told};
 use tx_region::Region;
 use tx_types::{Fault, Key};
@@ -29,5 +31,14 @@ impl<J: JournalId, F: Families> Network<J, F> {
     {
         let index = self.index(key);
         show_at(&mut self.regions[index], &mut self.newest, key)
+    }
+    /// What the request asks that is held under a name, where one is.
+    pub fn held_body(&self, name: &str) -> Option<&Body>
+        ensures { option_map (λ body. body.now) result ≡ body_at self.now.held name.now }
+    {
+        match self.held.get(name) {
+            Some(request) => Some(request.body()),
+            None => None,
+        }
     }
 }

@@ -2,7 +2,7 @@
 //! are kept no more.
 ghost use Rattle.std.specs.Prelude.{◌≡◌, [], Option, Some, None, is_some, option_map, length};
 ghost use Rattle.tx_core.specs.declared.event.Event.TheVariants as events;
-ghost use Rattle.tx_network.specs.Networks.{GoesOnWith, NotesDrawn, NotesTaken};
+ghost use Rattle.tx_network.specs.Networks.{GoesOnWith, NotesDrawn, NotesTaken, takings_in};
 ghost use Rattle.tx_trace.specs.Traces.{Noted, Traces};
 
 use super::Network;
@@ -10,7 +10,7 @@ use std::alloc::Global;
 use tx_cells::Families;
 use tx_core::{Answer, Body, Declaration, Outcome};
 use tx_journal::{JournalId, Reply};
-use tx_trace::Trace;
+use tx_trace::{Taking, Trace};
 use tx_types::Ts;
 
 fn note_drawn(trace: &mut Option<Trace>, ts: Ts)
@@ -93,6 +93,23 @@ impl<J: JournalId, F: Families> Network<J, F> {
     {
         match &self.trace {
             Some(trace) => Some(trace.steps().len()),
+            None => None,
+        }
+    }
+
+    /// Keeps, from now on, what regions take as well: nothing has happened yet.
+    pub fn keep_takings(&mut self, alloc: Global)
+        ensures { (t : Noted) × Traces [] t × (self.new ≡ record self.old { trace = Some t }) }
+    {
+        self.trace = Some(Trace::with_takings(alloc));
+    }
+
+    /// What regions took so far, oldest first: none where that is not kept, or no more.
+    pub fn takings(&self) -> Option<&[Taking]>
+        ensures { option_map (λ ts. ts.now) result ≡ takings_in self.now.trace }
+    {
+        match &self.trace {
+            Some(trace) => trace.takings(),
             None => None,
         }
     }

@@ -1,7 +1,10 @@
 //! What a session of a run does by its lines.
-ghost use Rattle.std.specs.Prelude.{◌≡◌, ◌+◌, true, None, Some};
+ghost use Rattle.std.specs.Prelude.{◌≡◌, ◌+◌, true, None, Some, is_some};
 ghost use Rattle.tx_steps.specs.Steps.{asked, IsApart};
 ghost use Rattle.tx_run.specs.Jobs.{JobGoesOn, MayAnswer, with_line};
+ghost use Rattle.tx_transfer.specs.Steps.{Begun};
+ghost use Rattle.tx_run.specs.Played.{IsPlayed, Leads, Makes, PlaysOne, SaysBegin, SaysFinish, SaysStop, Standing, StopsSo, at, buffer_at, free, live};
+ghost use Rattle.tx_journal.specs.Known.{Known};
 ghost use Rattle.tx_workload.specs.LineNumbers.{number_of};
 ghost use Rattle.tx_workload.specs.Readers.{HasSession};
 ghost use Rattle.tx_workload.specs.Steps.{Says, SaysStep};
@@ -27,7 +30,9 @@ impl<J: JournalId, L: Source, F: Families + Drop, R: Wait + Drop> ScriptJob<J, L
     fn begin(&mut self, number: u64, seat: Seat<J>)
         requires may { MayAnswer self.old }
         requires says { SaysOfSession L.text number }
-        ensures { JobGoesOn (with_line number self.old) self.new }
+        requires begins { SaysBegin L.text number }
+        ensures goes { JobGoesOn (with_line number self.old) self.new }
+        ensures plays { PlaysOne J.bounds L.text (free seat) number self.old.log self.new.log self.new.stands }
     {
         match Session::begin(self.context.alloc, seat) {
             Ok(session) => self.on_begun(number, session),
@@ -43,7 +48,10 @@ impl<J: JournalId, L: Source, F: Families + Drop, R: Wait + Drop> ScriptJob<J, L
         requires may { MayAnswer self.old }
         requires says { SaysOfSession L.text number }
         requires begun { IsBegun J.bounds session }
-        ensures { JobGoesOn (with_line number self.old) self.new }
+        requires begins { SaysBegin L.text number }
+        ensures goes { JobGoesOn (with_line number self.old) self.new }
+        ensures plays { (k : Known) → Begun J.bounds k session
+            → PlaysOne J.bounds L.text (free k) number self.old.log self.new.log self.new.stands }
     {
         let start = session.start();
         self.hear(&mut session);
@@ -66,7 +74,9 @@ impl<J: JournalId, L: Source, F: Families + Drop, R: Wait + Drop> ScriptJob<J, L
         requires may { MayAnswer self.old }
         requires pair { HasPair L.text number None }
         requires says { SaysStep L.text number }
-        ensures { JobGoesOn (with_line number self.old) self.new }
+        requires finishes { SaysFinish L.text number }
+        ensures goes { JobGoesOn (with_line number self.old) self.new }
+        ensures plays { PlaysOne J.bounds L.text (live session) number self.old.log self.new.log self.new.stands }
     {
         match self.conclude(number, session, None) {
             Ok(seat) => self.set_state(JobState::Free(seat)),
@@ -81,7 +91,8 @@ impl<J: JournalId, L: Source, F: Families + Drop, R: Wait + Drop> ScriptJob<J, L
         requires may { MayAnswer self.old }
         requires says { SaysStep L.text number }
         requires refusal { is_refusal plain.reply ≡ true }
-        ensures { JobGoesOn (with_line number self.old) self.new }
+        ensures goes { JobGoesOn (with_line number self.old) self.new }
+        ensures stopped { StopsSo J.bounds session number plain self.old.log self.new.log self.new.stands }
     {
         self.set_state(JobState::Free(session.stop()));
         self.report_refusal(number, plain);
@@ -91,7 +102,9 @@ impl<J: JournalId, L: Source, F: Families + Drop, R: Wait + Drop> ScriptJob<J, L
     fn leave(&mut self, number: u64, session: Session<J>)
         requires may { MayAnswer self.old }
         requires says { SaysOfSession L.text number }
-        ensures { JobGoesOn (with_line number self.old) self.new }
+        requires stops { SaysStop L.text number }
+        ensures goes { JobGoesOn (with_line number self.old) self.new }
+        ensures plays { PlaysOne J.bounds L.text (live session) number self.old.log self.new.log self.new.stands }
     {
         self.set_state(JobState::Free(session.stop()));
         self.report(number, PlainReply::new(ScriptReply::Fine));
@@ -111,6 +124,7 @@ impl<J: JournalId, L: Source, F: Families + Drop, R: Wait + Drop> ScriptJob<J, L
         ensures own { AllBy (EnteredBy L.text self.old.number (number + 1)) session.new.state.buffer }
         ensures tells { SaidTells J.bounds (EnteredBefore L.text number) session.new.seat.events (asked step.entry)
             (said_of result) }
+        ensures made { Makes J.bounds (asked step.entry) session.old (said_of result) session.new }
     {
         let _ = number;
         match step {
@@ -128,7 +142,8 @@ impl<J: JournalId, L: Source, F: Families + Drop, R: Wait + Drop> ScriptJob<J, L
         requires later { ComeLater L.text number self.old.left }
         requires says { Says L.text number (Some (asked step)) }
         requires named { HasSession L.text number (session_name L.text self.old.number) }
-        ensures { JobGoesOn (with_line number self.old) self.new }
+        ensures goes { JobGoesOn (with_line number self.old) self.new }
+        ensures plays { PlaysOne J.bounds L.text (live session.value) number self.old.log self.new.log self.new.stands }
     {
         let result = self.result_of(number, &mut session, step);
         self.note_stage(number, &session, &step, &result);
@@ -146,8 +161,10 @@ impl<J: JournalId, L: Source, F: Families + Drop, R: Wait + Drop> ScriptJob<J, L
         requires step { SaysStep L.text number }
         requires named { HasSession L.text number (session_name L.text self.old.number) }
         requires later { ComeLater L.text number self.old.left }
-        requires entered { AllBy (EnteredBy L.text self.old.number number) self.old.entered }
-        ensures { JobGoesOn (with_line number self.old) self.new }
+        requires entered { AllBy (EnteredBy L.text self.old.number number) (buffer_at self.old.stands) }
+        ensures goes { JobGoesOn (with_line number self.old) self.new }
+        ensures plays { is_some L.text ≡ true → (from : Standing) → self.old.stands ≡ at from
+            → IsPlayed J.bounds L.text from number self.old.log self.new.log self.new.stands }
     {
         match self.take_state() {
             JobState::Free(seat) => match step {
@@ -174,8 +191,10 @@ impl<J: JournalId, L: Source, F: Families + Drop, R: Wait + Drop> ScriptJob<J, L
         requires may { MayAnswer self.old }
         requires named { HasSession L.text script_line.now.number (session_name L.text self.old.number) }
         requires later { ComeLater L.text script_line.now.number self.old.left }
-        requires entered { AllBy (EnteredBy L.text self.old.number script_line.now.number) self.old.entered }
-        ensures { JobGoesOn (with_line script_line.now.number self.old) self.new }
+        requires entered { AllBy (EnteredBy L.text self.old.number script_line.now.number) (buffer_at self.old.stands) }
+        ensures goes { JobGoesOn (with_line script_line.now.number self.old) self.new }
+        ensures plays { is_some L.text ≡ true → (from : Standing) → self.old.stands ≡ at from
+            → IsPlayed J.bounds L.text from script_line.now.number self.old.log self.new.log self.new.stands }
     {
         let mut parts = Parts::new();
         match Line::read(
@@ -201,8 +220,10 @@ impl<J: JournalId, L: Source, F: Families + Drop, R: Wait + Drop> ScriptJob<J, L
         requires may { MayAnswer self.old }
         requires named { HasSession L.text (number_of line) (session_name L.text self.old.number) }
         requires later { ComeLater L.text (number_of line) self.old.left }
-        requires entered { AllBy (EnteredBy L.text self.old.number (number_of line)) self.old.entered }
-        ensures { JobGoesOn (with_line (number_of line) self.old) self.new }
+        requires entered { AllBy (EnteredBy L.text self.old.number (number_of line)) (buffer_at self.old.stands) }
+        ensures goes { JobGoesOn (with_line (number_of line) self.old) self.new }
+        ensures plays { is_some L.text ≡ true → (from : Standing) → self.old.stands ≡ at from
+            → Leads J.bounds L.text (at from) self.old.log self.new.log self.new.stands }
     {
         match line {
             SessionLine::Transfer(order) => self.on_order(Box::into_inner(order)),

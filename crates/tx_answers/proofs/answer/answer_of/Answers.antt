@@ -10,5 +10,5 @@ returns-in-Ok g c =
     let read = one_ok (λ input history. IsHistoryOf (lines_of input) history)
     (λ input fault. IsFaultOf (lines_of input) fault) bytes c.in_ok-history.field-0 c.in-Ok.history c.in-Ok.is
     c.in_ok-history.ensures.read in
-    if_so c.judged.result c.judged.ensures
+    if_so c.heard.result c.heard.ensures
     (λ answer said. if_known bytes (λ input is. inl (c.in-Ok.history, is, said)) read)

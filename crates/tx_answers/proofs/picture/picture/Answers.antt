@@ -7,5 +7,6 @@ use Rattle.tx_answers.proofs.picture.picture.Goals as goal
 pub returns : goal.returns
 returns c =
     if_so c.picture_of.result c.picture_of.ensures
-    (λ text e. e ∙ ap (λ steps. picture_of c.args.history.now (cycle_word c.args.cycle.now) steps)
+    (λ text e. e ∙ ap (λ title. picture_of c.args.history.now title c.as_slice.result.now) c.cycle_word.ensures
+    ∙ ap (λ steps. picture_of c.args.history.now (cycle_word c.args.cycle.now) steps)
     c.as_slice.ensures.value)

@@ -1,7 +1,7 @@
-use Rattle.tx_core.proofs.runs.AllRuns.{shadow_runs, decisions_true}
-use Rattle.tx_core.proofs.runs.EventSteps.{explained}
-use Rattle.tx_core.proofs.runs.Truths.{all_true}
+use Rattle.tx_core.proofs.runs.AllRuns.{legal_shadow, legal_decisions}
+use Rattle.tx_core.proofs.runs.EventSteps.{legal_explained}
+use Rattle.tx_core.proofs.runs.Truths.{legal_true}
 use Rattle.tx_core.proofs.headline.shadow_is_the_run.Goals as goal
 
 pub returns : goal.returns
-returns c = record { steps = explained; run = shadow_runs; answers = all_true; decisions = decisions_true }
+returns c = record { steps = legal_explained; run = legal_shadow; answers = legal_true; decisions = legal_decisions }

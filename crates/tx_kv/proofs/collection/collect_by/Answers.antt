@@ -1,6 +1,22 @@
+use Rattle.std.proofs.Common.{rules}
 use Rattle.tx_resolve.specs.Collection.{gc_walk}
 use Rattle.tx_reader.proofs.Observers.{sees_more, sees_seen, sent_sees}
+use Rattle.tx_kv.proofs.Collections.{collected_all, refused_so}
 use Rattle.tx_kv.proofs.collection.collect_by.Goals as goal
+
+-- why it is refused
+pub returns-in_err-dropped-clause-err : goal.returns-in_err-dropped-clause-err
+returns-in_err-dropped-clause-err g c =
+    let so = refused_so g.J.JournalId.bounds g.S.Sender.fits g.S.Sender.sends g.S.Sender.keys_between c.requires.way
+    c.least-safe.result c.last-now.new.self c.gc.new.seat c.args.sender.now c.gc.new.sender c.gc.result c.gc.ensures in
+    search rules
+
+-- what it came to
+pub returns-clause-done : goal.returns-clause-done
+returns-clause-done g c =
+    let so = collected_all g.J.JournalId.bounds g.S.Sender.fits g.S.Sender.sends g.S.Sender.keys_between c.requires.way
+    c.least-safe.result c.last-now.new.self c.gc.new.seat c.args.sender.now c.gc.new.sender c.gc.result c.gc.ensures in
+    search rules
 
 pub returns-in_err-dropped-clause-seat : goal.returns-in_err-dropped-clause-seat
 returns-in_err-dropped-clause-seat g c =

@@ -32,11 +32,13 @@ returns-clause-finds g c =
     let bounds = g.J.JournalId.bounds in
     let events = c.scan-answered.new.self.seat.events in
     let at = c.args.reader.now.at in
-    page_told bounds events c.know_run.ensures at c.args.from.now c.in_ok-end.end 1024 c.in_ok-rows.rows
-    (c.in_ok-rows.ensures.finds bounds events at c.args.from.now c.in_ok-end.end 1024 c.scan-answered.ensures.finds)
+    page_told bounds events c.know_run.ensures at c.args.from.now c.in_ok-end.end c.args.limit c.in_ok-rows.rows
+    (c.in_ok-rows.ensures.finds bounds events at c.args.from.now c.in_ok-end.end c.args.limit
+    c.scan-answered.ensures.finds)
 
 pub returns-in_err-rows-clause-err : goal.returns-in_err-rows-clause-err
 returns-in_err-rows-clause-err g c =
     let why : IsViewStop c.args.reader.now.at c.in_err-rows.field-0.0 =
-    c.in_err-rows.ensures.err c.args.reader.now.at c.scan-answered.ensures.may in
+    c.in_err-rows.ensures.err c.args.reader.now.at c.scan-answered.ensures.may
+    (c.scan-answered.ensures.lossless c.requires.lossless) in
     search rules

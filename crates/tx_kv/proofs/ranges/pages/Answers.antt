@@ -59,7 +59,7 @@ loop-preserved g c =
     (λ (n : ℕ). AreRowsOf (is_scanned c.loop.next part.1 1024 part.0) (SeesOn bounds events n) part.0)
     c.loop.invariant.0
     c.in_ok-part.ensures.finds in
-    let more = more_so_far told from to c.loop.next part.1 c.split_page-more.result.1 c.loop.rows.items part.0
+    let more = more_so_far told from to 1024 c.loop.next part.1 c.split_page-more.result.1 c.loop.rows.items part.0
     c.split_page-more.result.0.items so_far (lt_le c.loop.next part.1 (c.in_ok-part.ensures.some below))
     c.in_ok-part.ensures.upto page c.split_page-more.ensures in (
       c.page.ensures.at ∙ c.loop.invariant.0,

@@ -19,9 +19,8 @@ returns-then-lt-clause-finds g c =
     let events = c.pages.new.reader.seat.events in
     let at = c.args.reader.now.at in
     let is : c.in_ok-top.top ≡ greatest = search rules in
-    subst (λ (rows : List KeyValue). SeesRange events at (Some c.args.from.now) None rows) (sym c.from_vec-none.ensures)
-    (range_above (SeesOn g.J.JournalId.bounds events at) (SeenAt events at) c.args.from.now c.in_ok-top.top is
-    (sym c.lt.ensures ∙ c.if-lt.true) c.in_ok-rows.rows.items c.in_ok-rows.ensures.finds)
+    range_above (SeesOn g.J.JournalId.bounds events at) (SeenAt events at) c.args.from.now c.in_ok-top.top is
+    (sym c.lt.ensures ∙ c.if-lt.true) c.in_ok-rows.rows.items c.in_ok-rows.ensures.finds
 
 pub returns-in_err-found-clause-seat : goal.returns-in_err-found-clause-seat
 returns-in_err-found-clause-seat g c =
@@ -33,7 +32,7 @@ returns-in_err-found-clause-err g c =
     let may = subst (λ (n : ℕ). IfOk c.get-answered.result (IsKeyAnswer n)) c.pages.ensures.at
     c.get-answered.ensures.may in
     let why : IsViewStop c.args.reader.now.at c.in_err-found.field-0.0 =
-    c.in_err-found.ensures.err c.args.reader.now.at may in
+    c.in_err-found.ensures.err c.args.reader.now.at may (c.get-answered.ensures.lossless c.requires.lossless) in
     search rules
 
 pub returns-in_err-add_last-clause-seat : goal.returns-in_err-add_last-clause-seat
@@ -57,7 +56,7 @@ returns g c =
       at = c.get-answered.ensures.at ∙ c.pages.ensures.at;
       seat = sees_more c.args.reader.now.seat mid new c.pages.ensures.seat c.get-answered.ensures.seat;
       finds = subst (λ (rows : List KeyValue). SeesRange new.events at (Some c.args.from.now) None rows)
-          (sym (c.from_vec-all.ensures ∙ all))
+          (sym all)
           (range_with_top bounds new.events at (SeenAt new.events at) (seen_now bounds new.events c.know_run.ensures at)
           mid.events (sees_begins mid new c.get-answered.ensures.seat) c.args.from.now top is
           c.in_ok-rows.rows.items c.in_ok-rows.ensures.finds upto c.in_ok-found.found

@@ -1,4 +1,4 @@
-use Rattle.std.proofs.Common.{ℕ, ◌+◌, ◌<◌, ◌≤◌, length, sym, subst, arith}
+use Rattle.std.proofs.Common.{◌+◌, ◌<◌, ◌≤◌, sym, subst, arith}
 use Rattle.tx_onward.specs.Tells.{tells}
 use Rattle.tx_onward.proofs.Counts.{IsNoted, none_noted, next, all_noted}
 use Rattle.tx_onward.proofs.Past.{past_untold}

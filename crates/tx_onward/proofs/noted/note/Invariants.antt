@@ -1,4 +1,3 @@
-use Rattle.std.proofs.Common.{◌≡◌}
 use Rattle.tx_onward.specs.Tells.{tells}
 use Rattle.tx_onward.proofs.Counts.{IsNoted}
 use Rattle.tx_onward.proofs.noted.note.Given as goal

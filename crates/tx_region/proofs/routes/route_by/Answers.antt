@@ -6,9 +6,9 @@ pub returns-then-is_reached : goal.returns-then-is_reached
 returns-then-is_reached c =
     let bounds = c.args.bounds.now in
     let k = c.args.key.now in
-    let n = c.partition_point-index.result in
+    let n = c.first_from-index.result in
     let count = c.requires.fronts.0 in
-    let upto = c.partition_point-index.ensures.bound in
+    let upto = c.first_from-index.ensures in
     let is = c.front-front.ensures.value in
     let bytes = c.front-front.ensures.bytes in
     sym (between bounds c.requires.rising k n (omega (arith, upto, count)) (

@@ -10,9 +10,12 @@ returns-clause-comes g c =
     let outputs = c.in-Ok-work.outputs.items in
     if_ok c.close.result (λ played was. (
       outputs,
-      subst (λ (f : List ℕ). AreGathered f played.seen.events played.replies outputs)
+      subst (λ (f : List ℕ). AreGathered g.J.JournalId.bounds g.L.Source.text f played.seen.events played.replies
+          outputs)
           (rw c.as_slice.ensures.value at c.in_ok-seat.ensures.each) was.0,
       c.in-Ok-work.ensures.answered,
+      c.in-Ok-work.ensures.falling,
+      c.in-Ok-work.ensures.played,
     )) c.close.ensures.gathered
 
 pub returns-clause-faulted : goal.returns-clause-faulted

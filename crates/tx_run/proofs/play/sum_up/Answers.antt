@@ -17,3 +17,12 @@ pub returns-clause-total : goal.returns-clause-total
 returns-clause-total g c =
     tells_total g.J.JournalId.bounds c.args.seat.events c.in_ok-total.seat.events c.args.replies.now
     c.in_ok-total.total c.requires.told c.number.ensures.run.0 c.in_ok-total.ensures.total
+
+pub returns-clause-sums : goal.returns-clause-sums
+returns-clause-sums g c = record {
+  before = c.args.seat.events;
+  begins = c.in_ok-total.ensures.knows;
+  told = c.requires.told;
+  tells = c.requires.tells;
+  sums = c.in_ok-total.ensures.total;
+}

@@ -1,4 +1,7 @@
-use Rattle.std.proofs.Common.{map}
+use Rattle.std.proofs.Common.{List, ◌++◌, map, sym, subst}
+use Rattle.tx_types.specs.declared.key.Key.{Key}
+use Rattle.tx_workload.specs.ScriptLines.{opening_of}
+use Rattle.tx_run.specs.Jobs.{ComesOf}
 use Rattle.tx_workload.specs.LineNumbers.{numbers_in}
 use Rattle.tx_workload.proofs.Evidence.{all_tell, opens_with}
 use Rattle.tx_run.proofs.OwnLines.{own_lines}
@@ -11,8 +14,12 @@ returns-clause-comes g c =
     let script = c.in-Ok.script in
     let played = c.in_ok-played.played in
     let kept = rw c.in-Ok.is at c.in_ok-script.ensures.kept in
-    comes_of_text g.L.Source.text (numbers_in script.sessions.items) (map (λ seed. seed.number) script.seeds.items)
-    script.bounds.items played.seen.events played.replies kept c.in_ok-played.ensures.comes
+    let source = g.L.Source.text in
+    let seeds = map (λ seed. seed.number) script.seeds.items in
+    let lines = numbers_in script.sessions.items in
+    comes_of_text source lines seeds script.bounds.items played.seen.bounds played.seen.events played.replies kept
+    (subst (λ (b : List Key). ComesOf b source (opening_of script.bounds.items ++ seeds) lines played.seen.events
+    played.replies) (sym c.in_ok-played.ensures.bounds) c.in_ok-played.ensures.comes)
 
 pub play_script-requires-clause-own : goal.play_script-requires-clause-own
 play_script-requires-clause-own g c κs within =

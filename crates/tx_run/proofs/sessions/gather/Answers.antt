@@ -1,7 +1,8 @@
-use Rattle.std.proofs.Common.{◌≡◌, List, refl, sym, ap, subst, ◌∙◌}
+use Rattle.std.proofs.Common.{refl, sym, ap, subst, ◌∙◌}
 use Rattle.std.specs.List.{list_any}
+use Rattle.tx_core.proofs.seats.Beginnings.{begins_all, begins_more}
 use Rattle.tx_run.specs.Jobs.{AreFalling, AreJoined, Output}
-use Rattle.tx_run.proofs.AllAnswers.{AreLeft, none_told, none_above, first_above, left_next, joined_none, joined_more, one_goes, all_went, none_started, faulted_more}
+use Rattle.tx_run.proofs.AllAnswers.{AreLeft, none_told, none_above, first_above, left_next, joined_none, joined_more, one_goes, opened_on, all_went, none_started, faulted_more}
 use Rattle.tx_workload.proofs.Sources.{none_pairs}
 use Rattle.tx_run.proofs.sessions.gather.Goals as goal
 
@@ -20,6 +21,7 @@ loop-output-init g c =
       };
       split = sym same;
       joined = joined_none replies c.args.seat.now.events;
+      grew = begins_all c.args.seat.now.events;
       faulted = refl;
     }
 
@@ -51,6 +53,8 @@ loop-output-preserved g c =
           c.in-Some.output before.split step;
       joined = joined_more c.args.replies.now c.loop-output.seat.events c.join.new.seat.events c.loop-output.replies
           c.join.new.replies c.loop-output.yielded c.in-Some.output before.joined c.in_ok-fault.ensures.joins;
+      grew = begins_more c.args.seat.now.events c.loop-output.seat.events c.join.new.seat.events before.grew
+          c.in_ok-fault.ensures.joins.grew;
       faulted = faulted_more c.loop-output.faulted c.in_ok-fault.fault c.loop-output.yielded c.in-Some.output
           before.faulted c.in_ok-fault.ensures.fault;
     }
@@ -65,6 +69,8 @@ returns-clause-comes g c =
       c.requires.none,
       subst (AreJoined c.args.replies.now c.loop-output.seat.events c.loop-output.replies) went
           c.loop-output.invariant.joined,
+      opened_on g.J.JournalId.bounds g.L.Source.text c.args.seat.now.events c.loop-output.seat.events
+          c.loop-output.invariant.grew c.args.replies.now c.requires.opened,
     )
 
 pub returns-clause-faulted : goal.returns-clause-faulted

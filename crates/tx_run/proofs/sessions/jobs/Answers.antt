@@ -1,5 +1,7 @@
-use Rattle.std.proofs.Common.{◌+◌, length, map, vec_len, sym, ap, subst, ◌∙◌, arith}
-use Rattle.tx_run.specs.Jobs.{HaveOwnSeats, job_lines}
+use Rattle.std.proofs.Common.{◌+◌, ℕ, length, map, vec_len, sym, ap, subst, ◌∙◌, arith}
+use Rattle.tx_journal.specs.Known.{Known}
+use Rattle.tx_run.specs.Jobs.{HaveOwnSeats, IsFresh, job_lines}
+use Rattle.tx_run.specs.Played.{at, free, fresh}
 use Rattle.tx_workload.specs.LineNumbers.{number_of, numbers_in}
 use Rattle.tx_run.proofs.OwnSeats.{own_push, map_push}
 use Rattle.tx_run.proofs.AllAnswers.{one_goes, all_went}
@@ -16,6 +18,11 @@ loop-lines-preserved g c =
     let made = c.in_ok-new.ensures in
     let step = ap length c.in-Some.ensures.steps.0 in
     let ok = c.loop-lines.jobs.ok.0 in
+    let fresh : IsFresh job = (
+      made.stands ∙ ap (λ (k : Known). at (free k)) c.in-Some-two_seats.ensures.fresh
+          ∙ ap (λ (n : ℕ). at (free (fresh n))) (sym made.job.1),
+      made.none,
+    ) in
     record {
       seats = c.in-Some-two_seats.ensures.rest;
       left = omega (arith, before.left, two.0);
@@ -23,7 +30,7 @@ loop-lines-preserved g c =
       few = omega (arith, before.few, step);
       jobs = subst (λ l. HaveOwnSeats last l) (sym c.in_ok-push.ensures.items)
           (own_push last c.loop-lines.jobs.items job before.jobs (omega (arith, made.job.0, before.number, ok))
-          (omega (arith, made.job.1, two.1, before.left, before.number, ok)));
+          (omega (arith, made.job.1, two.1, before.left, before.number, ok)) fresh);
       split = one_goes c.args.sessions.items c.loop-lines.yielded c.loop-lines.lines-iterator.rest.items _
           c.in-Some.lines before.split c.in-Some.ensures.steps.0;
       lines = ap (map job_lines) c.in_ok-push.ensures.items

@@ -1,5 +1,5 @@
 use Rattle.std.proofs.Common.{◌+◌, ◌++◌, sym, ap, subst, ◌∙◌, All, List, ℕ}
-use Rattle.tx_core.proofs.seats.Beginnings.{extends_begins}
+use Rattle.tx_core.proofs.seats.Beginnings.{begins_more, extends_begins}
 use Rattle.tx_workload.specs.declared.reply.LineReply.{LineReply}
 use Rattle.tx_core.specs.Histories.{History, Begins}
 use Rattle.std.proofs.lemmas.List.Elements.{All-append}
@@ -10,7 +10,7 @@ use Rattle.tx_workload.specs.Logs.{TellsBy}
 use Rattle.tx_run.specs.Jobs.{IsAbove, Output, Joins}
 use Rattle.tx_workload.proofs.SessionAnswers.{tells_on}
 use Rattle.tx_workload.proofs.Evidence.{lines_tell_on}
-use Rattle.tx_run.proofs.AllAnswers.{joined, joined_above, outcomes_on, all_above_on}
+use Rattle.tx_run.proofs.AllAnswers.{joined, joined_above, outcomes_on, all_above_on, some_more}
 use Rattle.tx_run.proofs.sessions.join.Goals as goal
 
 pub returns-clause-told : goal.returns-clause-told
@@ -19,7 +19,9 @@ returns-clause-told g c =
     let old = c.args.seat.now.events in
     let now = c.learn.new.self.events in
     let run = c.learn.ensures.seen.run in
-    let more = extends_begins c.args.seat.now.seat old now c.learn.ensures.seen.extends in
+    let mid = c.learn_last.new.seat in
+    let more = begins_more old mid.events now c.learn_last.ensures.grew
+    (extends_begins mid.seat mid.events now c.learn.ensures.seen.extends) in
     let log = c.output.inside.log in
     let seat = c.args.output.log.seat in
     let xs = c.args.replies.now in
@@ -38,7 +40,9 @@ returns-clause-above g c =
     let old = c.args.seat.now.events in
     let now = c.learn.new.self.events in
     let run = c.learn.ensures.seen.run in
-    let more = extends_begins c.args.seat.now.seat old now c.learn.ensures.seen.extends in
+    let mid = c.learn_last.new.seat in
+    let more = begins_more old mid.events now c.learn_last.ensures.grew
+    (extends_begins mid.seat mid.events now c.learn.ensures.seen.extends) in
     let log = c.output.inside.log in
     let seat = c.args.output.log.seat in
     let xs = c.args.replies.now in
@@ -64,7 +68,9 @@ returns-clause-tells g c =
     let bounds = g.J.JournalId.bounds in
     let old = c.args.seat.now.events in
     let now = c.learn.new.self.events in
-    let more = extends_begins c.args.seat.now.seat old now c.learn.ensures.seen.extends in
+    let mid = c.learn_last.new.seat in
+    let more = begins_more old mid.events now c.learn_last.ensures.grew
+    (extends_begins mid.seat mid.events now c.learn.ensures.seen.extends) in
     let log = c.output.inside.log in
     let xs = c.args.replies.now in
     let knows = subst (λ (h : History). Begins h now) c.into_parts-told.ensures.parts.0 c.learn.ensures.told in
@@ -80,7 +86,14 @@ returns-clause-joins g c =
     let now = c.learn.new.self.events in
     let log = c.output.inside.log in
     let xs = c.args.replies.now in
-    let output : Output = record { number = c.output.inside.number; log = log; faulted = c.output.inside.faulted } in
+    let output : Output = record {
+      number = c.output.inside.number;
+      log = log;
+      faulted = c.output.inside.faulted;
+      last = c.output.inside.last;
+    } in
+    let mid = c.learn_last.new.seat in
+    let on = extends_begins mid.seat mid.events now c.learn.ensures.seen.extends in
     subst (λ (o : Output). Joins old xs o now c.add.new.self) c.output.view_is (record {
       learnt = record {
         kept = sym c.into_parts-told.ensures.parts.2 ∙ c.if-lost.false;
@@ -88,7 +101,8 @@ returns-clause-joins g c =
             c.into_parts-told.ensures.told;
         knows =
             subst (λ (h : History). Begins h now) c.into_parts-told.ensures.parts.0 c.learn.ensures.told;
+        knew = some_more mid.events now on c.output.inside.last c.learn_last.ensures.knows;
       };
-      grew = extends_begins c.args.seat.now.seat old now c.learn.ensures.seen.extends;
+      grew = begins_more old mid.events now c.learn_last.ensures.grew on;
       all = c.in_ok-add.ensures ∙ ap (λ (l : List LineReply). xs ++ l) c.into_parts-told.ensures.parts.1;
     })

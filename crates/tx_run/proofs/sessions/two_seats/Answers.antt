@@ -1,5 +1,5 @@
 use Rattle.std.proofs.Common.{◌+◌, length, arith}
-use Rattle.tx_run.proofs.OwnSeats.{two_rest, two_seat}
+use Rattle.tx_run.proofs.OwnSeats.{two_fresh, two_rest, two_seat}
 use Rattle.tx_run.proofs.sessions.two_seats.Goals as goal
 
 pub returns-clause-rest : goal.returns-clause-rest
@@ -13,3 +13,8 @@ returns-clause-two g c =
     c.pop-2.new.self.items c.in_ok-seat.seat c.in_ok-resolver.resolver c.in_ok-seat.ensures.items
     c.in_ok-resolver.ensures.items c.requires in
     (omega (arith, c.in_ok-seat.ensures.len, c.in_ok-resolver.ensures.len), omega (arith, two.0, c.args.seats.now.ok.0))
+
+pub returns-clause-fresh : goal.returns-clause-fresh
+returns-clause-fresh g c =
+    two_fresh (length g.J.JournalId.bounds + 1) c.args.seats.now.items c.pop.new.self.items c.pop-2.new.self.items
+    c.in_ok-seat.seat c.in_ok-resolver.resolver c.in_ok-seat.ensures.items c.in_ok-resolver.ensures.items c.requires

@@ -23,7 +23,7 @@ returns-in-Ok-clause-unended g c =
     unended_in g.W.Work.does g.J.JournalId.bounds c.args.terms.now c.args.seats begun c.run-session.result.0
     c.run-session.result.1 c.run-session.result.2 c.run-session.result.3 c.finished.result c.args.work.now
     c.run-session.new.work c.in-Ok.ensures.ok.1 c.run-session.ensures.session c.run-session.ensures.works
-    c.run-session.ensures.resolver c.finished.ensures.open_yet
+    c.run-session.ensures.resolver c.run-session.ensures.ended c.finished.ensures.open_yet
 
 pub returns-in-Err-clause-unended : goal.returns-in-Err-clause-unended
 returns-in-Err-clause-unended g c =

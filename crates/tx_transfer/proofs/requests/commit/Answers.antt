@@ -2,6 +2,8 @@ use Rattle.tx_transaction.specs.declared.state.Phase.TheVariants as phase
 use Rattle.tx_transaction.specs.Sessions.{due_commit}
 use Rattle.tx_client.proofs.WriteSets.{keeps_due}
 use Rattle.tx_transfer.proofs.SeedWrites.{puts_due}
+use Rattle.tx_client.specs.Walks.{due_walk}
+use Rattle.tx_transfer.proofs.Sends.{sent_as}
 use Rattle.tx_transfer.proofs.requests.commit.Goals as goal
 
 pub returns-clause-sends : goal.returns-clause-sends
@@ -21,3 +23,11 @@ returns-clause-put g c =
     puts_due g.S.Sender.sends g.J.JournalId.bounds c.args.session.now.seat c.commit_next.new.self.seat c.args.sender.now
     c.commit_next.new.sender s phase.Commit (due_commit s) (c.commit_next.new.self.state, c.commit_next.result)
     c.commit_next.ensures
+
+pub returns-clause-over : goal.returns-clause-over
+returns-clause-over g c =
+    let old = c.args.session.now in
+    let new = c.commit_next.new.self in
+    sent_as g.S.Sender.sends g.J.JournalId.bounds old.seat new.seat c.args.sender.now c.commit_next.new.sender
+    (due_walk old.state phase.Commit (due_commit old.state))
+    (new.state, c.commit_next.result) c.commit_next.ensures c.requires.replies

@@ -1,7 +1,6 @@
 -- In place of all, or at its place behind what there was.
-use Rattle.std.proofs.Common.{◌≡◌, ◌<◌, ◌-◌, ◌++◌, ℕ, List, length, drop, get_or, arith, sym, ap, ◌∙◌, subst}
+use Rattle.std.proofs.Common.{◌<◌, ◌-◌, ◌++◌, length, drop, get_or, arith, sym, ap, ◌∙◌, subst}
 use Rattle.std.proofs.lemmas.List.{take_all, length-drop}
-use Rattle.tx_verdict.specs.Facts.{IsDistinct}
 use Rattle.tx_verdict.proofs.Torn.{torn_cleared, torn_other, torn_early, torn_at}
 use Rattle.tx_verdict.proofs.block.is_whole.Goals as goal
 

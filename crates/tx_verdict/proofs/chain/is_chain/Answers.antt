@@ -1,7 +1,6 @@
 -- One version more.
-use Rattle.std.proofs.Common.{◌≡◌, ℕ, ◌+◌, ◌<◌, length, arith, ap, refl, sym, subst, IsTrue, ◌&&◌}
+use Rattle.std.proofs.Common.{length, arith, ap}
 use Rattle.tx_history.specs.Records.{writers_of}
-use Rattle.tx_verdict.specs.Forced.{IsBased, IsLinked}
 use Rattle.tx_verdict.proofs.Chains.{more_links}
 use Rattle.tx_verdict.proofs.chain.is_chain.Goals as goal
 

@@ -1,5 +1,5 @@
 -- The effect says so.
-use Rattle.std.proofs.Common.{◌≡◌, ◌≤◌, length, get_or, arith, ap, sym, ◌∙◌, slice_index}
+use Rattle.std.proofs.Common.{length, arith, ap, sym, ◌∙◌, slice_index}
 use Rattle.std.proofs.lemmas.Bool.{eqb-true}
 use Rattle.tx_verdict.proofs.chain.is_first.Goals as goal
 

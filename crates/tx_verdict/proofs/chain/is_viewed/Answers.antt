@@ -1,5 +1,4 @@
 -- By a view of the writer's own.
-use Rattle.std.proofs.Common.{◌≡◌, sym, subst, slice_index}
 use Rattle.tx_verdict.proofs.Chains.{based_first, based_next}
 use Rattle.tx_verdict.proofs.chain.is_viewed.Goals as goal
 

@@ -1,5 +1,5 @@
 -- The timestamps of the history explain the recording.
-use Rattle.std.proofs.Common.{◌≡◌, ℕ, Bool, List, subst, refl}
+use Rattle.std.proofs.Common.{ℕ, Bool, List, subst, refl}
 use Rattle.tx_recording.specs.Explanations.{Precedes}
 use Rattle.tx_clock.specs.KeptOrder.{KeepsPairs}
 use Rattle.tx_verdict.specs.declared.verdict.Timestamps.{Timestamps}

@@ -1,7 +1,6 @@
 -- The read is one of the operations.
-use Rattle.std.proofs.Common.{◌≡◌, ℕ, Option, None, get_or, ap, sym, subst}
+use Rattle.std.proofs.Common.{ℕ, None, get_or, ap, sym, subst}
 use Rattle.tx_recording.specs.Recordings.{no_op}
-use Rattle.tx_verdict.specs.declared.verdict.Fact.{Fact}
 use Rattle.tx_verdict.specs.declared.verdict.Rule.TheVariants.{Internal}
 use Rattle.tx_verdict.specs.Verdicts.{IsWrong}
 use Rattle.tx_clock.proofs.ClockOrder.{is_one}

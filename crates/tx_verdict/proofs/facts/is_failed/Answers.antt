@@ -1,5 +1,5 @@
 -- As it stands in the recording.
-use Rattle.std.proofs.Common.{◌≡◌, ◌<◌, length, arith}
+use Rattle.std.proofs.Common.{◌<◌, arith}
 use Rattle.std.proofs.lemmas.Grind.{common_steps}
 use Rattle.tx_recording.specs.declared.recording.Outcome.TheVariants.{Fail as Failed}
 use Rattle.tx_recording.specs.Recordings.{txns_of}

@@ -1,5 +1,5 @@
 -- The values are the same.
-use Rattle.std.proofs.Common.{◌≡◌, sym, ◌∙◌}
+use Rattle.std.proofs.Common.{sym, ◌∙◌}
 use Rattle.tx_verdict.proofs.facts.is_same.Goals as goal
 
 pub returns : goal.returns

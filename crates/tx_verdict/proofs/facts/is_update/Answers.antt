@@ -1,5 +1,5 @@
 -- One of its operations puts into the key.
-use Rattle.std.proofs.Common.{◌≡◌, ℕ, subst}
+use Rattle.std.proofs.Common.{ℕ, subst}
 use Rattle.tx_recording.specs.Explanations.{PutsIn}
 use Rattle.tx_verdict.proofs.facts.is_update.Goals as goal
 

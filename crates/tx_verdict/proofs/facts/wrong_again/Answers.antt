@@ -1,5 +1,5 @@
 -- The two views differ.
-use Rattle.std.proofs.Common.{◌≡◌, sym, ◌∙◌}
+use Rattle.std.proofs.Common.{sym, ◌∙◌}
 use Rattle.std.proofs.lemmas.Bool.{false≢true}
 use Rattle.tx_verdict.proofs.Refutations.{fact_unrepeatable}
 use Rattle.tx_verdict.proofs.facts.wrong_again.Goals as goal

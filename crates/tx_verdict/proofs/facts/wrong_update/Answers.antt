@@ -1,5 +1,5 @@
 -- Both saw the same, and put something there.
-use Rattle.std.proofs.Common.{◌≡◌, get_or}
+use Rattle.std.proofs.Common.{get_or}
 use Rattle.std.proofs.lemmas.List.Elements.{Contains-get_or}
 use Rattle.tx_views.proofs.ValueOwners.{put_once}
 use Rattle.tx_verdict.specs.Versions.{no_view}

@@ -1,5 +1,4 @@
 -- Nobody put the value, one that failed did, or the reader does later.
-use Rattle.std.proofs.Common.{◌≡◌}
 use Rattle.tx_verdict.proofs.Refutations.{fact_unwritten, fact_aborted, fact_itself}
 use Rattle.tx_verdict.proofs.facts.wrong_value.Goals as goal
 

@@ -1,5 +1,5 @@
 -- One operation more.
-use Rattle.std.proofs.Common.{◌≡◌, ℕ, ◌<◌, length, get_or, arith}
+use Rattle.std.proofs.Common.{ℕ, get_or, arith}
 use Rattle.tx_recording.specs.Recordings.{no_op}
 use Rattle.tx_recording.specs.Explanations.{Puts}
 use Rattle.tx_views.proofs.ReadViews.{below_next}

@@ -1,8 +1,7 @@
 -- One transaction more.
-use Rattle.std.proofs.Common.{◌≡◌, ℕ, ◌<◌, length, arith, sym, ◌∙◌, subst, IsTrue}
+use Rattle.std.proofs.Common.{ℕ, arith, sym, ◌∙◌, subst, IsTrue}
 use Rattle.std.proofs.lemmas.Grind.{common_steps}
 use Rattle.std.proofs.lemmas.Bool.{false≢true}
-use Rattle.tx_recording.specs.Recordings.{txns_of}
 use Rattle.tx_recording.specs.Explanations.{IsPut, PutsIn}
 use Rattle.tx_views.proofs.ReadViews.{below_next}
 use Rattle.tx_verdict.specs.Versions.{IsPlaced, live_of}

@@ -1,5 +1,5 @@
 -- One version more.
-use Rattle.std.proofs.Common.{◌≡◌, ℕ, ◌+◌, ◌<◌, length, arith, ap, subst, slice_index}
+use Rattle.std.proofs.Common.{ℕ, ◌+◌, length, arith, ap, subst, slice_index}
 use Rattle.tx_history.specs.Records.{writers_of}
 use Rattle.tx_views.proofs.ReadViews.{below_next}
 use Rattle.tx_verdict.specs.Versions.{IsVersionFit}

@@ -1,5 +1,5 @@
 -- One key more, and past the last there are no versions.
-use Rattle.std.proofs.Common.{◌≡◌, ℕ, ◌<◌, ◌≤◌, length, arith}
+use Rattle.std.proofs.Common.{arith}
 use Rattle.std.proofs.lemmas.Grind.{common_steps}
 use Rattle.tx_history.proofs.Graphs.{key_within}
 use Rattle.tx_views.proofs.ReadViews.{below_next}

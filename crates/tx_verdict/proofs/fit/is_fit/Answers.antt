@@ -1,5 +1,5 @@
 -- All of it together.
-use Rattle.std.proofs.Common.{◌≡◌, ◌≤◌, length, arith}
+use Rattle.std.proofs.Common.{◌≤◌, arith}
 use Rattle.std.proofs.lemmas.Grind.{common_steps}
 use Rattle.tx_recording.specs.Recordings.{txns_of}
 use Rattle.tx_verdict.proofs.Small.{if_fits}

@@ -1,7 +1,6 @@
 -- The version is there, and the writer is the transaction.
-use Rattle.std.proofs.Common.{◌≡◌, ◌-◌, ◌≤◌, length, arith, sym, ap, ◌∙◌, slice_index}
+use Rattle.std.proofs.Common.{◌-◌, length, arith, sym, ap, ◌∙◌, slice_index}
 use Rattle.std.proofs.lemmas.Bool.{eqb-true}
-use Rattle.tx_history.specs.Records.{writers_of}
 use Rattle.tx_verdict.proofs.fit.is_placed.Goals as goal
 
 pub returns : goal.returns

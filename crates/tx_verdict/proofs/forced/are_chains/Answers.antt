@@ -1,10 +1,10 @@
 -- One chain more, and past the last there are no versions.
-use Rattle.std.proofs.Common.{◌≡◌, ℕ, ◌+◌, ◌<◌, length, arith, subst, sym, inl, inr}
+use Rattle.std.proofs.Common.{◌<◌, length, arith, inl, inr}
 use Rattle.std.proofs.lemmas.Grind.{common_steps}
 use Rattle.std.proofs.lemmas.Bool.{cases_lt}
 use Rattle.std.proofs.lemmas.List.{get_or_read}
 use Rattle.tx_views.proofs.ReadViews.{below_next}
-use Rattle.tx_verdict.specs.Forced.{IsChain, key_of}
+use Rattle.tx_verdict.specs.Forced.{IsChain}
 use Rattle.tx_verdict.proofs.Chains.{chain_of, no_chain}
 use Rattle.tx_verdict.proofs.forced.are_chains.Goals as goal
 

@@ -1,8 +1,7 @@
 -- By the view.
-use Rattle.std.proofs.Common.{◌≡◌, ℕ, ◌-◌, length, arith, ap, sym, subst, slice_index, ◌∙◌}
+use Rattle.std.proofs.Common.{arith}
 use Rattle.std.proofs.lemmas.List.{get_or_read}
 use Rattle.std.proofs.lemmas.Grind.{common_steps}
-use Rattle.tx_verdict.specs.Forced.{key_of}
 use Rattle.tx_verdict.proofs.Chains.{read_none, read_some}
 use Rattle.tx_verdict.proofs.forced.is_read.Goals as goal
 

@@ -1,5 +1,5 @@
 -- The value that was seen is the transaction's.
-use Rattle.std.proofs.Common.{◌≡◌, ◌<◌, length, get_or, arith, sym, subst}
+use Rattle.std.proofs.Common.{get_or}
 use Rattle.std.proofs.lemmas.List.Elements.{Contains-get_or}
 use Rattle.tx_verdict.specs.Versions.{no_view}
 use Rattle.tx_verdict.proofs.Views.{shown_by}

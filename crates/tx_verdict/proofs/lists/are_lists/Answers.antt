@@ -1,5 +1,5 @@
 -- None of the operations writes in place of what was there.
-use Rattle.std.proofs.Common.{◌≡◌, ℕ, ◌<◌, ◌+◌, length, get_or, arith, ap, sym, ◌∙◌}
+use Rattle.std.proofs.Common.{arith}
 use Rattle.tx_verdict.proofs.Small.{lists_of}
 use Rattle.tx_verdict.proofs.lists.are_lists.Goals as goal
 

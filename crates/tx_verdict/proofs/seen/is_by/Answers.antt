@@ -1,5 +1,4 @@
 -- The owner is the transaction.
-use Rattle.std.proofs.Common.{◌≡◌}
 use Rattle.std.proofs.lemmas.Bool.{eqb-true}
 use Rattle.tx_verdict.proofs.seen.is_by.Goals as goal
 

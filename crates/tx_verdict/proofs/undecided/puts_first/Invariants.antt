@@ -1,5 +1,5 @@
 -- None of those so far is of the key.
-use Rattle.std.proofs.Common.{◌≡◌, ℕ, ◌<◌, ◌≢◌, get_or}
+use Rattle.std.proofs.Common.{ℕ, ◌<◌, ◌≢◌, get_or}
 use Rattle.tx_recording.specs.Recordings.{no_op}
 use Rattle.tx_verdict.proofs.undecided.puts_first.Given as goal
 

@@ -2,7 +2,7 @@
 use Rattle.std.proofs.Common.{◌≡◌, ◌<◌, length, arith, sym, ◌∙◌, Some, None}
 use Rattle.std.proofs.lemmas.List.{length-set, get_or_read}
 use Rattle.tx_views.specs.Owners.{owner_at}
-use Rattle.tx_views.proofs.ValueOwners.{own_op, not_itself, kept_set, notes_set, only_set, early_set, value_below}
+use Rattle.tx_views.proofs.ValueOwners.{own_op, kept_set, notes_set, only_set, early_set, value_below}
 use Rattle.tx_views.proofs.owner.note.Goals as goal
 
 pub returns-in-Some-index-clause-twice : goal.returns-in-Some-index-clause-twice
@@ -23,7 +23,7 @@ returns-in-Some-index-clause-twice c =
     sym (get_or_read table v c.index.result.now within c.index.ensures None) ∙ c.in-Some-index.is in (
       c.loop-place.invariant.only v first at,
       own,
-      not_itself t place first (c.loop-place.invariant.early v first at),
+      c.loop-place.invariant.early v first at,
     )
 
 pub loop-place-preserved : goal.loop-place-preserved

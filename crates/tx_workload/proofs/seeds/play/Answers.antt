@@ -1,4 +1,4 @@
-use Rattle.std.proofs.Common.{List, ℕ, Some, sym, ap, subst}
+use Rattle.std.proofs.Common.{inl, inr, List, ℕ, Some, refl, sym, ap, subst}
 use Rattle.std.specs.Borrow.{Bor}
 use Rattle.tx_core.proofs.seats.Beginnings.{begins_all}
 use Rattle.tx_steps.specs.declared.step.Step.{Step}
@@ -32,3 +32,27 @@ returns-clause-tells g c =
 
 pub returns-clause-knows : goal.returns-clause-knows
 returns-clause-knows g c = begins_all c.args.seat.events
+
+pub returns-in-Some-Seed-clause-plays : goal.returns-in-Some-Seed-clause-plays
+returns-in-Some-Seed-clause-plays g c =
+    let source = g.L.Source.text in
+    let number = c.args.script_line.now.number in
+    let line = subst (λ (l : List ℕ). HasLine source number l) (sym c.as_slice.ensures.value)
+    c.args.script_line.now.line in
+    let is = rw c.in-Ok-Ok.field-0-is at c.in-Ok-Ok.ensures.ok in
+    let said = rw c.in-Some-Seed.is at c.step.ensures.said in
+    let says = step_made source number c.as_slice.result.now (data_of c.in-Ok-Ok.line) c.in-Some-Seed.field-0 line is
+    said in
+    inl (record {
+      key = c.in-Some-Seed.key.now;
+      value = c.in-Some-Seed.value.now;
+      says = subst (λ (s : Step (Bor Text)). Says source number (Some (asked s))) c.in-Some-Seed.field-0-is says;
+      came = c.seed-seat.result.1;
+      plays = c.seed-seat.ensures.plays;
+      plain = c.reply_to.result;
+      told = refl;
+      is = c.reply_to.ensures;
+    })
+
+pub returns-clause-plays : goal.returns-clause-plays
+returns-clause-plays g c = inr (c.new.result, refl, c.new.ensures, refl)

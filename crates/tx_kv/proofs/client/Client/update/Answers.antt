@@ -1,25 +1,13 @@
-use Rattle.std.proofs.Common.{◌≡◌, subst, rules}
-use Rattle.tx_kv.specs.Clients.{Updates, seats_of}
-use Rattle.tx_kv.proofs.UpdateResults.{seen_goes, updates_so}
+use Rattle.std.proofs.Common.{◌≡◌, refl, sym, subst, rules}
+use Rattle.tx_kv.specs.Clients.{ClientState, Updates}
+use Rattle.tx_kv.proofs.UpdateResults.{only_sees_goes, updates_at}
 use Rattle.tx_kv.proofs.client.Client.update.Goals as goal
 
+-- it may have collected before it
 pub returns : goal.returns
 returns g c =
-    let inside = c.self.inside in
-    let same : c.in-Some.seats ≡ seats_of inside.seats = search rules in
-    subst
-    (λ s. Updates g.W.Work.does g.J.JournalId.bounds s c.args.work.now c.told_of-told.result.0
-    (record { seats = c.told_of-told.result.1; terms = inside.terms; again = inside.again }) c.update-came.new.work)
-    c.self.view_is
-    (subst
-    (λ k. Updates g.W.Work.does g.J.JournalId.bounds
-    (record { seats = k; terms = inside.terms; again = inside.again }) c.args.work.now c.told_of-told.result.0
-    (record { seats = c.told_of-told.result.1; terms = inside.terms; again = inside.again }) c.update-came.new.work)
-    same
-    (updates_so g.W.Work.does g.J.JournalId.bounds
-    (record { seats = c.in-Some.seats; terms = inside.terms; again = inside.again })
-    c.last.new.self
-    (seen_goes g.J.JournalId.bounds c.in-Some.seats.resolves c.last.new.self c.last.ensures.same.0 c.last.ensures.seen)
-    c.args.work.now c.update-came.new.work c.told_of-told.result.0 c.told_of-told.result.1
-    c.update-came.result c.update-came.ensures.ended c.update-came.ensures.unended c.told_of-told.ensures.ended
-    c.told_of-told.ensures.unended))
+    let first = c.collect_if_due.ensures in
+    updates_at g.W.Work.does g.W.Work.stops_at g.J.JournalId.bounds c.args.self.now c.collect_if_due.new.self
+    first.begins (only_sees_goes c.args.self.now.seats.resolves c.collect_if_due.new.self.seats.resolves first.resolves)
+    first.terms.0 first.terms.1 c.args.work.now c.update_now-told.new.work c.update_now-told.result
+    c.update_now-told.new.self c.update_now-told.ensures

@@ -1,8 +1,10 @@
-use Rattle.std.proofs.Common.{sym, subst}
+use Rattle.std.proofs.Common.{◌≡◌, IfErr, sym, subst}
 use Rattle.tx_core.specs.Allowed.{Allowed}
 use Rattle.tx_core.specs.Worlds.{IsWorldRun}
+use Rattle.tx_transaction.specs.Returns.{Response}
+use Rattle.tx_transaction.specs.declared.state.Miss.TheVariants.{Fault as Short}
 use Rattle.tx_reader.specs.Readers.{Reading, OnlySees}
-use Rattle.tx_reader.proofs.Observers.{held_of, sees_itself, learns_sees, keeps_learnt}
+use Rattle.tx_reader.proofs.Observers.{held_of, sees_itself, learns_sees, keeps_learnt, short_alone}
 use Rattle.tx_reader.proofs.reader.Reader.look.Goals as goal
 
 pub returns-in_default-clause-seat : goal.returns-in_default-clause-seat
@@ -35,3 +37,8 @@ pub returns-clause-run : goal.returns-clause-run
 returns-clause-run g c =
     (keeps_learnt g.J.JournalId.bounds c.self.inside.seat c.ask.new.seat c.self.inside.at c.self.inside.passed
     c.self.invariant c.ask.ensures.asked.reached c.ask.ensures.asked.learns).0
+
+pub returns-clause-lossless : goal.returns-clause-lossless
+returns-clause-lossless g c lossless =
+    subst (λ (r : Response). IfErr r (λ m. m ≡ Short)) (sym c.ask.ensures.asked.is)
+    (short_alone g.S.Sender.sends lossless _ _ _ c.ask.ensures.asked.reached c.ask.ensures.asked.sent)

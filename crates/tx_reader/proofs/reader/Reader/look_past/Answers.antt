@@ -45,6 +45,7 @@ returns-in_default g c = record {
   may = subst (λ (n : ℕ). IsAnswerTo n c.args.read.now c.in_ok-answer.answer) c.loop.invariant.0
       (may_be g.J.JournalId.bounds c.look.new.self.seat.events c.look.ensures.run c.loop.self.at c.args.read.now
       c.in_ok-answer.ensures.told.0 c.in_ok-answer.ensures.told.1 c.in_ok-answer.answer c.in_ok-answer.ensures.told.2);
+  lossless = λ none. tt;
 }
 
 pub loop-preserved : goal.loop-preserved

@@ -1,7 +1,7 @@
 use Rattle.std.proofs.Common.{map, sym, subst, ◌∙◌, Ok}
 use Rattle.std.specs.Prelude.{reverse}
 use Rattle.tx_workload.specs.LineNumbers.{number_of}
-use Rattle.tx_run.specs.States.{buffer_of, going_of}
+use Rattle.tx_run.specs.States.{going_of, where_of}
 use Rattle.tx_workload.specs.declared.reply.LineAnswer.TheVariants.{Plain}
 use Rattle.tx_workload.specs.Logs.{answer_to}
 use Rattle.tx_workload.specs.Tells.{TellsLine}
@@ -9,14 +9,14 @@ use Rattle.tx_run.specs.Jobs.{JobGoesOn, MayAnswer, Working, with_line}
 use Rattle.tx_run.proofs.AnsweredLines.{answered}
 use Rattle.tx_run.proofs.job.ScriptJob.report.Goals as goal
 
-pub returns : goal.returns
-returns g c =
+pub returns-clause-goes : goal.returns-clause-goes
+returns-clause-goes g c =
     let j : Working = record {
       number = c.self.inside.number;
       log = c.self.inside.log;
-      going = going_of c.self.inside.state (λ transfer. transfer.value);
+      going = going_of c.self.inside.state (λ transfer. transfer.value.number);
       left = map number_of (reverse c.self.inside.lines.items);
-      entered = buffer_of c.self.inside.state (λ session. session.value.state.buffer);
+      stands = where_of c.self.inside.state (λ session. session.value) (λ transfer. transfer.value);
       faulted = c.self.inside.faulted;
     } in
     let is = c.self.view_is ∙ c.meet.ensures in

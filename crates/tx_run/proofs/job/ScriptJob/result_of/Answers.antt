@@ -1,9 +1,11 @@
-use Rattle.std.proofs.Common.{refl, sym, subst}
+use Rattle.std.proofs.Common.{refl, sym, subst, Err}
 use Rattle.std.specs.Borrow.{Bor}
+use Rattle.tx_types.specs.declared.fault.Cause.TheVariants.{Name}
 use Rattle.tx_steps.specs.declared.step.Step.{Step}
 use Rattle.tx_steps.specs.Steps.{Text, acted, asked, called, delivered}
 use Rattle.tx_transfer.specs.Replies.{said_of}
 use Rattle.tx_workload.specs.Tells.{EnteredBefore, SaidTells, SaysOwn}
+use Rattle.tx_run.specs.Played.{Makes}
 use Rattle.tx_run.proofs.OwnLines.{act_own, next_entered, send_own}
 use Rattle.tx_run.proofs.job.ScriptJob.result_of.Goals as goal
 
@@ -26,6 +28,11 @@ returns-in-Act-clause-tells g c =
     (said_of c.act.result)) (sym c.in-Act.is)
     (act_own source bounds job c.args.number c.in-Act.field-0.now c.args.session.now c.act.new.session
     (said_of c.act.result) c.requires.own _ _ (acted c.in-Act.action) own c.act.ensures).1
+
+pub returns-in-Act-clause-made : goal.returns-in-Act-clause-made
+returns-in-Act-clause-made g c =
+    subst (λ (s : Step (Bor Text)). Makes g.J.JournalId.bounds (asked s) c.args.session.now (said_of c.act.result)
+    c.act.new.session) (sym c.in-Act.is) (_, _, c.act.ensures)
 
 pub returns-in-Send-clause-own : goal.returns-in-Send-clause-own
 returns-in-Send-clause-own g c =
@@ -51,14 +58,21 @@ returns-in-Send-clause-tells g c =
     (said_of c.send.result) c.requires.own (called c.in-Send.request) (delivered c.in-Send.field-2) own
     c.send.ensures.sends).1
 
+pub returns-in-Send-clause-made : goal.returns-in-Send-clause-made
+returns-in-Send-clause-made g c =
+    subst (λ (s : Step (Bor Text)). Makes g.J.JournalId.bounds (asked s) c.args.session.now (said_of c.send.result)
+    c.send.new.session) (sym c.in-Send.is) c.send.ensures.sends
+
 pub returns-in-Begin-clause-own : goal.returns-in-Begin-clause-own
 returns-in-Begin-clause-own g c =
     next_entered g.L.Source.text c.args.self.now.number c.args.number c.args.session.now.state.buffer c.requires.own
 
-pub returns-in_default : goal.returns-in_default
-returns-in_default g c = record {
-  job = refl;
-  own = next_entered g.L.Source.text c.args.self.now.number c.args.number c.args.session.now.state.buffer
-      c.requires.own;
-  tells = tt;
-}
+pub returns-in-Begin-clause-made : goal.returns-in-Begin-clause-made
+returns-in-Begin-clause-made g c =
+    subst (λ (s : Step (Bor Text)). Makes g.J.JournalId.bounds (asked s) c.args.session.now (Err Name)
+    c.args.session.now)
+    (sym c.in-Begin.is) (refl, refl)
+
+pub returns-in_default-clause-own : goal.returns-in_default-clause-own
+returns-in_default-clause-own g c =
+    next_entered g.L.Source.text c.args.self.now.number c.args.number c.args.session.now.state.buffer c.requires.own

@@ -35,39 +35,40 @@ returns-then-ge-clause-finds g c =
 pub returns-in_err-page-clause-more : goal.returns-in_err-page-clause-more
 returns-in_err-page-clause-more g c =
     begins_more c.args.self.now.running.seat.events c.loop.self.running.seat.events
-    c.page.new.self.running.seat.events c.loop.invariant.1 c.page.ensures.more
+    c.look_for.new.self.running.seat.events c.loop.invariant.1 c.look_for.ensures.more
 
 pub returns-in_err-clone-clause-more : goal.returns-in_err-clone-clause-more
 returns-in_err-clone-clause-more g c =
     begins_more c.args.self.now.running.seat.events c.loop.self.running.seat.events
-    c.page.new.self.running.seat.events c.loop.invariant.1 c.page.ensures.more
+    c.look_for.new.self.running.seat.events c.loop.invariant.1 c.look_for.ensures.more
 
 pub returns-in_err-add_rows-clause-more : goal.returns-in_err-add_rows-clause-more
 returns-in_err-add_rows-clause-more g c =
     begins_more c.args.self.now.running.seat.events c.loop.self.running.seat.events
-    c.page.new.self.running.seat.events c.loop.invariant.1 c.page.ensures.more
+    c.look_for.new.self.running.seat.events c.loop.invariant.1 c.look_for.ensures.more
 
 pub loop-preserved : goal.loop-preserved
 loop-preserved g c =
     let bounds = g.J.JournalId.bounds in
     let start = g.B.Begun.session.state.start in
     let before = c.loop.self.running.seat.events in
-    let events = c.page.new.self.running.seat.events in
+    let events = c.look_for.new.self.running.seat.events in
     let told = SeesOn bounds events start in
     let from = c.args.from.now in
     let to = c.args.to.now in
     let below : IsTrue (key_lt c.loop.next to) = ge_false c.loop.next to (sym c.ge.ensures ∙ c.if-ge.false) in
     let so_far = later_so_far (SeesOn bounds before start) told
-    (λ k o sees. sees_later bounds before events start c.page.ensures.more k o sees) from to c.loop.next
+    (λ k o sees. sees_later bounds before events start c.look_for.ensures.more k o sees) from to c.loop.next
     c.loop.rows.items c.loop.invariant.2 in
-    let split : IsSplit c.in_ok-page.page to c.split_page-more.result.0.items c.split_page-more.result.1 =
-    subst (λ (k : Key). IsSplit c.in_ok-page.page k c.split_page-more.result.0.items c.split_page-more.result.1)
+    let split : IsSplit 1024 c.in_ok-page.page to c.split_page-more.result.0.items c.split_page-more.result.1 =
+    subst (λ (k : Key). IsSplit 1024 c.in_ok-page.page k c.split_page-more.result.0.items c.split_page-more.result.1)
     c.in_ok-clone.ensures.ok c.split_page-more.ensures in
-    let more = more_so_far told from to c.loop.next to c.split_page-more.result.1 c.loop.rows.items c.in_ok-page.page
-    c.split_page-more.result.0.items so_far (lt_le c.loop.next to below) (le_itself to) c.in_ok-page.ensures.tells
+    let more = more_so_far told from to 1024 c.loop.next to c.split_page-more.result.1 c.loop.rows.items
+    c.in_ok-page.page c.split_page-more.result.0.items so_far (lt_le c.loop.next to below) (le_itself to)
+    c.in_ok-page.ensures.tells
     split in (
-      c.page.ensures.same ∙ c.loop.invariant.0,
-      begins_more c.args.self.now.running.seat.events before events c.loop.invariant.1 c.page.ensures.more,
+      c.look_for.ensures.same ∙ c.loop.invariant.0,
+      begins_more c.args.self.now.running.seat.events before events c.loop.invariant.1 c.look_for.ensures.more,
       subst (λ (rows : List KeyValue). AreSoFar told from to c.split_page-more.result.1 rows)
           (sym c.in_ok-add_rows.ensures.ok) more,
     )

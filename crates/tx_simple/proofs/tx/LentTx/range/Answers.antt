@@ -1,27 +1,34 @@
-use Rattle.std.proofs.Common.{List, Some, sym, ap, subst, ◌∙◌}
-use Rattle.tx_types.specs.declared.mutation.Change.{Change}
+use Rattle.std.proofs.Common.{◌≡◌, IfOk, List, Option, Some, sym, subst}
+use Rattle.tx_types.specs.declared.key.Key.{Key}
 use Rattle.tx_types.specs.declared.mutation.KeyValue.{KeyValue}
 use Rattle.tx_core.proofs.seats.Beginnings.{begins_all}
-use Rattle.tx_transaction.specs.Buffers.{changes_of}
-use Rattle.tx_simple.specs.Ranges.{AreEntered, is_in_range}
-use Rattle.tx_simple.specs.Reads.{FindsRange}
-use Rattle.tx_simple.proofs.Ranges.{entered_found}
+use Rattle.tx_transaction.specs.Buffers.{Entries}
+use Rattle.tx_laws.specs.Rows.{AreRowsOf}
+use Rattle.tx_simple.specs.Ranges.{is_in_range}
+use Rattle.tx_simple.specs.Reads.{Beneath, FindsRange}
 use Rattle.tx_simple.proofs.tx.LentTx.range.Goals as goal
 
 pub returns-in_err-range-clause-more : goal.returns-in_err-range-clause-more
 returns-in_err-range-clause-more g c = begins_all c.args.self.now.running.seat.events
 
+-- the buffer is as it was
+pub with_entered-requires : goal.with_entered-requires
+with_entered-requires g c =
+    let range = c.in_ok-range.range in
+    record {
+      beneath = subst (λ (es : Entries). AreRowsOf (is_in_range (Some range.from) range.to)
+          (Beneath es c.rows_in.new.self.running.seat.events g.B.Begun.session.state.start) c.in_ok-rows.rows.items)
+          (sym c.rows_in.ensures.same) c.in_ok-rows.ensures.finds;
+    }
+
 pub returns-clause-finds : goal.returns-clause-finds
 returns-clause-finds g c =
-    let entries = c.args.self.now.running.state.buffer in
     let events = c.rows_in.new.self.running.seat.events in
     let start = g.B.Begun.session.state.start in
     let range = c.in_ok-range.range in
-    let old = c.in_ok-rows.rows.items in
-    let new = c.enter_over.new.rows.items in
-    subst (λ (r : List KeyValue). FindsRange entries events start c.args.from c.args.to r) (sym c.from_vec.ensures)
-    (entered_found entries events start c.args.from c.args.to range.from range.to c.in_ok-range.ensures.ok.0
-    c.in_ok-range.ensures.ok.1 c.in_ok-changes.changes
-    (c.in_ok-changes.ensures.ok ∙ ap changes_of c.rows_in.ensures.same) old new c.in_ok-rows.ensures.finds
-    (subst (λ (cs : List Change). AreEntered (is_in_range (Some range.from) range.to) cs old new) c.as_slice.ensures
-    c.in_ok-enter_over.ensures.entered))
+    subst (λ (es : Entries). IfOk c.with_entered.result (λ rows. FindsRange es events start c.args.from c.args.to
+    rows.items)) c.rows_in.ensures.same
+    (subst (λ (to : Option Key). IfOk c.with_entered.result (λ rows. FindsRange c.rows_in.new.self.running.state.buffer
+    events start c.args.from to rows.items)) c.in_ok-range.ensures.ok.1
+    (subst (λ (k : Key). IfOk c.with_entered.result (λ rows. FindsRange c.rows_in.new.self.running.state.buffer events
+    start (Some k) range.to rows.items)) c.in_ok-range.ensures.ok.0 c.with_entered.ensures.finds))

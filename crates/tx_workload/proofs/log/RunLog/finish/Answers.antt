@@ -1,10 +1,12 @@
-use Rattle.std.proofs.Common.{All, sym, subst, ◌∙◌, ℕ}
+use Rattle.std.proofs.Common.{◌≡◌, All, Some, ap, sym, subst, ◌∙◌, ℕ}
 use Rattle.std.proofs.lemmas.Bool.{eqb-true}
 use Rattle.tx_core.specs.Histories.{History, Begins}
 use Rattle.tx_core.specs.declared.event.Event.TheVariants.{Answered}
-use Rattle.tx_client.specs.Calls.{Records}
-use Rattle.tx_transaction.specs.Sessions.{SessionState}
-use Rattle.tx_workload.specs.Logs.{KeepsOutcome, Logged, TellsBy}
+use Rattle.tx_client.specs.Calls.{HasHeard, Records}
+use Rattle.tx_journal.specs.Known.{Known}
+use Rattle.tx_transaction.specs.Sessions.{SessionState, finish_of}
+use Rattle.tx_workload.specs.declared.reply.LineAnswer.TheVariants.{Ended}
+use Rattle.tx_workload.specs.Logs.{KeepsAnswer, KeepsOutcome, Logged, TellsBy}
 use Rattle.tx_transfer.specs.Transfers.{IsBetween}
 use Rattle.tx_transfer.specs.Transfers.{MovesSome}
 use Rattle.tx_transfer.proofs.TransferWrites.{ends_between}
@@ -43,6 +45,30 @@ pub returns-then-eq-clause-kept : goal.returns-then-eq-clause-kept
 returns-then-eq-clause-kept g c =
     subst (λ (l : Logged). KeepsOutcome l c.args.number c.args.keys c.learn_outcome.new.self) c.self.view_is
     (c.start-start.result, c.in-Ok.outcome, c.learn_outcome.ensures.kept)
+
+pub returns-then-eq-clause-finished : goal.returns-then-eq-clause-finished
+returns-then-eq-clause-finished g c =
+    let bounds = g.J.JournalId.bounds in
+    let old = c.args.session in
+    let mid = c.learn_told.new.self.seat in
+    let o = c.in-Ok.outcome in
+    let told = c.copy.ensures.copy ∙ ap (λ (l : Logged). l.told) c.self.view_is in
+    let start = c.start-start.ensures ∙ ap (λ (s : SessionState). s.start) c.learn_told.ensures.state in (
+      o,
+      record {
+        mid = mid;
+        heard = subst (λ (h : History). HasHeard bounds old.seat h mid) told c.learn_told.ensures.after_answer;
+        is = subst (λ (s : SessionState). finish_of s ≡ Some o) c.learn_told.ensures.state c.in-Ok.ensures.ended.0;
+        records = subst (λ (k : Known). Records bounds mid (Answered old.state.start o) k)
+            (sym c.learn_outcome.ensures.back)
+            (subst (λ (s : SessionState). Records bounds mid (Answered s.start o) c.in-Ok.seat)
+            c.learn_told.ensures.state c.in-Ok.ensures.ended.1);
+      },
+      subst (λ (t : ℕ). KeepsAnswer c.args.self.now c.args.number (Ended t o c.args.keys)
+          c.learn_outcome.new.self) start
+          (subst (λ (l : Logged). KeepsAnswer l c.args.number (Ended c.start-start.result o c.args.keys)
+          c.learn_outcome.new.self) c.self.view_is c.learn_outcome.ensures.kept),
+    )
 
 pub invariant_of-self : goal.invariant_of-self
 invariant_of-self g c =

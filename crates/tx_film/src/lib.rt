@@ -1,0 +1,16 @@
+//! A script's run as a film: while it is played, what each line did. Of each line the reply, the
+//! requests that regions took and what they answered, what then stands on the keys to which they
+//! went, the request that it holds on its way, and the steps of the machine that came with it.
+#![tactic(auto)]
+
+mod film;
+mod frame;
+mod keys;
+mod lines;
+mod said;
+
+pub use film::film_lines;
+pub use frame::{Film, Frame, KeyShown};
+pub use keys::keys_of;
+pub use lines::lines_of;
+pub use said::key_named;

@@ -1,0 +1,4 @@
+pub mod OneKey
+pub mod BothKeys
+pub mod Collected
+pub mod Marks

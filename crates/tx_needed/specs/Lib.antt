@@ -1,0 +1,4 @@
+pub mod Needed
+pub mod Rules
+pub mod Forgets
+pub mod Leaves

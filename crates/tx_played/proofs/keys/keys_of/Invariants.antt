@@ -1,6 +1,0 @@
-use Rattle.tx_types.specs.Keys.{AreRising}
-use Rattle.tx_played.specs.Played.{IsShowable}
-use Rattle.tx_played.proofs.keys.keys_of.Given as goal
-
-abbrev pub invariant-lines : goal.invariant-lines
-invariant-lines l = IsShowable l.keys.items × AreRising l.keys.items

@@ -1,0 +1,125 @@
+//! Why a line of a history says no transaction.
+use crate::show::shown_value;
+use serde_json::Value;
+use std::alloc::{AllocError, Global};
+use tx_hints::meant;
+
+// Whether a value is a name: a string, or a whole number.
+fn is_name(value: &Value) -> bool {
+    match value.as_str() {
+        Some(text) => matches!(text.len(), 1..=512),
+        None => value.as_u64().is_some(),
+    }
+}
+
+// Whether a value is what a read may find.
+fn is_read(value: &Value) -> bool {
+    match value.as_array() {
+        Some(values) => values.iter().all(|value| is_name(value)),
+        None => value.is_null() || is_name(value),
+    }
+}
+
+// Whether a value is an operation.
+fn is_op(value: &Value) -> bool {
+    let Some(members) = value.as_array() else {
+        return false;
+    };
+    match members.as_slice() {
+        [word, key, found] => match word.as_str() {
+            Some("append" | "w") => is_name(key) && is_name(found),
+            Some("r") => is_name(key) && is_read(found),
+            _ => false,
+        },
+        _ => false,
+    }
+}
+
+// The word that an operation begins with, or an empty one.
+fn word_of(op: &Value) -> &str {
+    match op.as_array() {
+        Some(members) => match members.first() {
+            Some(word) => word.as_str().unwrap_or_default(),
+            None => "",
+        },
+        None => "",
+    }
+}
+
+// Why a transaction's operations are none.
+fn wrong_ops(alloc: Global, value: &Value) -> Result<Option<String>, AllocError> {
+    let Some(ops) = value.get("ops").and_then(Value::as_array) else {
+        return Ok(Some("the transaction has no list \"ops\"".to_string(alloc)?));
+    };
+    match ops.iter().find(|op| !is_op(op)) {
+        None => Ok(None),
+        Some(op) => {
+            let meant = meant(alloc, word_of(op), &["append"])?;
+            let op = shown_value(alloc, op)?;
+            Ok(Some(format!(in alloc;
+                "{op} is no operation ([\"append\",key,value], [\"w\",key,value], [\"r\",key,values]){meant}"
+            )?))
+        }
+    }
+}
+
+// Whether a member is a whole number, null, or not there.
+fn is_number_or_none(value: &Value, name: &str) -> bool {
+    match value.get(name) {
+        None => true,
+        Some(found) => found.is_null() || found.as_u64().is_some(),
+    }
+}
+
+// The name of a member that is no number.
+fn wrong_number(value: &Value) -> Option<&'static str> {
+    'names: for name in ["id", "start", "end"] {
+        if !is_number_or_none(value, name) {
+            return Some(name);
+        }
+    }
+    None
+}
+
+// Whether a member is a name, null, or not there.
+fn is_name_or_none(value: &Value, name: &str) -> bool {
+    match value.get(name) {
+        None => true,
+        Some(found) => found.is_null() || is_name(found),
+    }
+}
+
+// Why a line is none of a history that is no object.
+fn no_object(alloc: Global, value: &Value) -> Result<String, AllocError> {
+    let hint = if value.is_array() {
+        ": steps of scripts are for txkv simulate, those of traces for txkv check"
+    } else {
+        ""
+    };
+    format!(in alloc; "the line is no object{hint}")
+}
+
+/// Why a value says no transaction, where that can be said of the value alone.
+pub(crate) fn wrong_transaction(
+    alloc: Global,
+    value: &Value,
+) -> Result<Option<String>, AllocError> {
+    if !value.is_object() {
+        return Ok(Some(no_object(alloc, value)?));
+    }
+    if !is_name_or_none(value, "process") {
+        return Ok(Some(
+            "\"process\" is no string of 1 to 512 bytes and no whole number below 2^64".to_string(
+                alloc,
+            )?,
+        ));
+    }
+    let word = value.get("type").and_then(Value::as_str);
+    if !matches!(word, Some("ok" | "fail" | "info")) {
+        return Ok(Some("\"type\" is \"ok\", \"fail\" or \"info\"".to_string(alloc)?));
+    }
+    if let Some(name) = wrong_number(value) {
+        return Ok(Some(format!(in alloc; "\"{name}\" is no whole number below 2^64")?));
+    }
+    wrong_ops(alloc, value)
+}

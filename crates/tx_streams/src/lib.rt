@@ -1,0 +1,20 @@
+//! The streams of a program that answers as it is asked: what was written is handed on before more
+//! is read; the faults among the lines that are written are noted, and what was read last is kept
+//! for who tells why; comments are passed over; and how far it has come is told.
+#![tactic(auto)]
+
+mod comments;
+mod copied;
+mod faults;
+mod live;
+mod progress;
+mod recent;
+mod steps;
+
+pub use comments::{Comments, Dropped};
+pub use copied::{Copied, first_lines};
+pub use faults::{NotedFaults, Noting, fault_in};
+pub use live::{Asking, Shared};
+pub use progress::{Counted, Erasing, ProgressLine};
+pub use recent::Recent;
+pub use steps::Steps;

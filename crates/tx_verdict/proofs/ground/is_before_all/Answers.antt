@@ -1,0 +1,11 @@
+-- A view of the recording.
+use Rattle.std.proofs.Common.{get_or, arith}
+use Rattle.std.proofs.lemmas.List.Elements.{Contains-get_or}
+use Rattle.tx_verdict.specs.Versions.{no_view}
+use Rattle.tx_verdict.proofs.ground.is_before_all.Goals as goal
+
+pub sees_nothing-requires : goal.sees_nothing-requires
+sees_nothing-requires c = record {
+  view = c.requires.views (get_or c.args.views.now c.args.view no_view)
+      (Contains-get_or c.args.views.now c.args.view no_view (grind (arith, c.if-view-views.false)));
+}

@@ -1,0 +1,8 @@
+-- With those so far, the rest closes.
+use Rattle.std.proofs.Common.{ℕ, drop}
+use Rattle.tx_verdict.specs.Refutations.{ClosesBy}
+use Rattle.tx_verdict.proofs.lemma.closes_by.Given as goal
+
+abbrev pub invariant-loop-i : goal.invariant-loop-i
+invariant-loop-i l = ClosesBy l.recording l.orders l.lemmas l.known.items (drop l.i l.hints) l.steps
+    → ClosesBy l.recording l.orders l.lemmas l.fn.known.items l.hints l.steps

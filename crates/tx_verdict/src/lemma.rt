@@ -1,0 +1,217 @@
+//! Clauses of orders, each of which follows from those before it.
+ghost use Rattle.std.specs.Prelude.{◌≡◌, ◌⊎◌, ◌++◌, ◌∷◌, [], Contains, OnOk, IfOk, IsTrue, take};
+ghost use Rattle.tx_recording.specs.Recordings.{IsRecording};
+ghost use Rattle.tx_views.specs.declared.view.View.{View};
+ghost use Rattle.tx_views.specs.Views.{IsViewOf};
+ghost use Rattle.tx_views.specs.Owners.{AreOwners};
+ghost use Rattle.tx_history.specs.Records.{IsRecorded};
+ghost use Rattle.tx_verdict.specs.Refutations.{IsOrder, opposite, IsUnit, IsUnitOf, ClosesBy, IsLemmaBy, AreLemmasBy};
+
+use crate::ground::Ground;
+use crate::refutation::{Hint, Lemma, Order, is_round_by};
+use crate::stretch::has_written;
+use crate::verdict::CycleStep;
+use crate::versions::Versions;
+use std::alloc::{AllocError, Global};
+use tx_recording::{Orders, Recording};
+use tx_views::{Owner, View};
+
+// The order the other way round.
+fn opposite_of(order: Order) -> Order
+    ensures { result ≡ opposite order }
+{
+    Order {
+        key: order.key,
+        first: order.second,
+        second: order.first,
+    }
+}
+
+// Whether an order is known.
+fn is_among(known: &[Order], order: Order) -> bool
+    ensures { IsTrue result → Contains known.now order }
+{
+    for i in 0..known.len() {
+        if known[i] == order {
+            return true;
+        }
+    }
+    false
+}
+
+// Whether an order is this one, or is known to be the other way round.
+fn is_other(known: &[Order], order: Order, left: Order) -> bool
+    ensures { IsTrue result → (order ≡ left) ⊎ Contains known.now (opposite order) }
+{
+    if order == left {
+        return true;
+    }
+    is_among(known, opposite_of(order))
+}
+
+// Whether all orders of a clause but this one are known to be the other way round.
+fn is_unit(known: &[Order], clause: &[Order], left: Order) -> bool
+    ensures { IsTrue result → IsUnit known.now clause.now left }
+{
+    for i in 0..clause.len() {
+        if !is_other(known, clause[i], left) {
+            return false;
+        }
+    }
+    true
+}
+
+// Whether an order is what is left of the clause of a lemma.
+fn is_left(lemmas: &[Lemma], known: &[Order], hint: Hint) -> bool
+    ensures { IsTrue result → IsUnitOf lemmas.now known.now hint }
+{
+    let place = hint.lemma as usize;
+    if place >= lemmas.len() {
+        return false;
+    }
+    is_unit(known, lemmas[place].clause.as_slice(), hint.order)
+}
+
+// Whether what is known closes a round, with what is left of the clauses of lemmas.
+fn closes_by(
+    alloc: Global,
+    recording: &Recording,
+    owners: &[Option<Owner>],
+    views: &[View],
+    versions: &Versions,
+    orders: Orders,
+    lemmas: &[Lemma],
+    known: &mut Vec<Order>,
+    hints: &[Hint],
+    steps: &[CycleStep],
+    grounds: &[Ground],
+) -> Result<bool, AllocError>
+    requires recording { IsRecording recording.now }
+    requires owners { AreOwners recording.now owners.now }
+    requires views { (v : View) → Contains views.now v → IsViewOf recording.now v }
+    requires history { IsRecorded versions.now.recorded }
+    ensures { IfOk result (λ is. IsTrue is
+        → ClosesBy recording.now orders lemmas.now known.old.items hints.now steps.now) }
+{
+    for i in 0..hints.len() {
+        if !is_left(lemmas, known.as_slice(), hints[i]) {
+            return Ok(false);
+        }
+        known.push(hints[i].order)?;
+    }
+    let closes = is_round_by(
+        alloc,
+        recording,
+        owners,
+        views,
+        versions,
+        orders,
+        known.as_slice(),
+        steps,
+        grounds,
+    )?;
+    Ok(closes)
+}
+
+// Whether two wrote the key of an order.
+fn is_order(
+    recording: &Recording,
+    owners: &[Option<Owner>],
+    views: &[View],
+    versions: &Versions,
+    order: Order,
+) -> bool
+    requires recording { IsRecording recording.now }
+    requires owners { AreOwners recording.now owners.now }
+    requires views { (v : View) → Contains views.now v → IsViewOf recording.now v }
+    ensures { IsTrue result → IsOrder recording.now order }
+{
+    if order.first == order.second {
+        return false;
+    }
+    if !has_written(recording, owners, views, versions, order.first, order.key) {
+        return false;
+    }
+    has_written(recording, owners, views, versions, order.second, order.key)
+}
+
+// Whether one of the orders of a lemma holds, by what is known and by the lemmas before.
+fn is_lemma(
+    alloc: Global,
+    recording: &Recording,
+    owners: &[Option<Owner>],
+    views: &[View],
+    versions: &Versions,
+    orders: Orders,
+    known: &[Order],
+    before: &[Lemma],
+    lemma: &Lemma,
+) -> Result<bool, AllocError>
+    requires recording { IsRecording recording.now }
+    requires owners { AreOwners recording.now owners.now }
+    requires views { (v : View) → Contains views.now v → IsViewOf recording.now v }
+    requires history { IsRecorded versions.now.recorded }
+    ensures { IfOk result (λ is. IsTrue is → IsLemmaBy recording.now orders known.now before.now lemma.now) }
+{
+    let clause = lemma.clause.as_slice();
+    let mut all = Vec::new(alloc);
+    all.extend_from_slice(known)?;
+    for i in 0..clause.len() {
+        if !is_order(recording, owners, views, versions, clause[i]) {
+            return Ok(false);
+        }
+        all.push(opposite_of(clause[i]))?;
+    }
+    let closes = closes_by(
+        alloc,
+        recording,
+        owners,
+        views,
+        versions,
+        orders,
+        before,
+        &mut all,
+        lemma.hints.as_slice(),
+        lemma.round.as_slice(),
+        lemma.grounds.as_slice(),
+    )?;
+    Ok(closes)
+}
+
+/// Whether each lemma follows from what is known and from those before it, and with them all the
+/// last round closes.
+pub(crate) fn are_lemmas(
+    alloc: Global,
+    recording: &Recording,
+    owners: &[Option<Owner>],
+    views: &[View],
+    versions: &Versions,
+    orders: Orders,
+    known: &[Order],
+    lemmas: &[Lemma],
+    hints: &[Hint],
+    last: &[CycleStep],
+    grounds: &[Ground],
+) -> Result<bool, AllocError>
+    requires recording { IsRecording recording.now }
+    requires owners { AreOwners recording.now owners.now }
+    requires views { (v : View) → Contains views.now v → IsViewOf recording.now v }
+    requires history { IsRecorded versions.now.recorded }
+    ensures { IfOk result (λ is. IsTrue is
+        → AreLemmasBy recording.now orders known.now [] lemmas.now hints.now last.now) }
+{
+    for i in 0..lemmas.len() {
+        let before = &lemmas[..i];
+        if !is_lemma(
+            alloc, recording, owners, views, versions, orders, known, before, &lemmas[i],
+        )? {
+            return Ok(false);
+        }
+    }
+    let mut all = Vec::new(alloc);
+    all.extend_from_slice(known)?;
+    let closes = closes_by(
+        alloc, recording, owners, views, versions, orders, lemmas, &mut all, hints, last, grounds,
+    )?;
+    Ok(closes)
+}

@@ -1,0 +1,13 @@
+//! The graph of versions of which some keys' orders are open: what holds in each of these orders,
+//! the orders that follow, and ways of it.
+#![tactic(auto)]
+
+mod lists;
+mod reach;
+mod ways;
+mod web;
+
+pub use lists::Lists;
+pub use reach::{Finds, Found, Taken, groups_of, taken_of};
+pub use ways::{Paths, ends_of, note_used};
+pub use web::{Link, Loose, Web, Why, commit_of, loose_chains, start_of, web_of};

@@ -1,0 +1,379 @@
+//! Orders of two chains that are found, as the opposite one would close a cycle.
+ghost use Rattle.std.specs.Prelude.{◌<◌};
+
+use crate::lists::Lists;
+use crate::web::{Loose, Web, Why, commit_of, start_of};
+use std::alloc::{AllocError, Global};
+use tx_chains::{number, put_at};
+
+// How many words of marks each node has, and how many chains these are of.
+const WORDS: usize = 16;
+
+const CHAINS: usize = 256;
+
+// How many edges are followed in a round, each for so many chains, and how many pairs are looked
+// at.
+const MOST_FOLLOWED: usize = 0x800_0000;
+
+const MOST_PAIRS: usize = 0x400_0000;
+
+/// That one chain comes before another of its key, by places among those that have none.
+#[derive(Clone, Copy)]
+pub struct Found {
+    pub before: u32,
+    pub behind: u32,
+    /// How many were found in the rounds before.
+    pub upto: u32,
+    /// Whether the one leads to the last version of the other from its start, else from its commit
+    /// to the readers.
+    pub by_start: bool,
+}
+
+/// The nodes of a graph, each behind all that its edges come from, as far as there is no cycle.
+#[derive(Drop)]
+pub struct Taken {
+    pub order: Vec<u32>,
+    /// By node: how many edges lead to it from nodes that were not taken.
+    pub left: Vec<u32>,
+}
+
+// By node, how many edges lead to it.
+fn count_edges(alloc: Global, web: &Web) -> Result<Vec<u32>, AllocError> {
+    let mut left = vec![in alloc; 0u32; web.nodes as usize]?;
+    for i in 0..web.links.len() {
+        if let Some(link) = web.links.get(i) {
+            let node = link.to as usize;
+            if let Some(count) = left.get(node) {
+                let more = count.saturating_add(1);
+                put_at(left.as_mut_slice(), node, more);
+            }
+        }
+    }
+    Ok(left)
+}
+
+impl Taken {
+    // Passes an edge to a node.
+    fn pass(&mut self, node: u32) -> Result<(), AllocError> {
+        let Some(count) = self.left.get(node as usize) else {
+            return Ok(());
+        };
+        let left = count.saturating_sub(1);
+        put_at(self.left.as_mut_slice(), node as usize, left);
+        if left == 0 {
+            self.order.push(node)?;
+        }
+        Ok(())
+    }
+
+    // Takes the nodes that no edge leads to.
+    fn take_first(&mut self, nodes: u32) -> Result<(), AllocError> {
+        for node in 0..nodes {
+            if self.left.get(node as usize) == Some(&0) {
+                self.order.push(node)?;
+            }
+        }
+        Ok(())
+    }
+
+    // Passes the edges of a node.
+    fn leave(&mut self, web: &Web, by_node: &Lists, node: u32) -> Result<(), AllocError> {
+        let mut at = by_node.first(node as usize);
+        for _ in 0..web.links.len() {
+            let Some(place) = at else {
+                return Ok(());
+            };
+            if let Some(link) = web.links.get(place as usize) {
+                self.pass(link.to)?;
+            }
+            at = by_node.next(place);
+        }
+        Ok(())
+    }
+}
+
+/// The nodes of a graph, each behind all that its edges come from, as far as there is no cycle.
+pub fn taken_of(alloc: Global, web: &Web, by_node: &Lists) -> Result<Taken, AllocError> {
+    let mut taken = Taken {
+        order: Vec::new(alloc),
+        left: count_edges(alloc, web)?,
+    };
+    taken.take_first(web.nodes)?;
+    for i in 0..web.nodes as usize {
+        let Some(node) = taken.order.get(i) else {
+            return Ok(taken);
+        };
+        let node = *node;
+        taken.leave(web, by_node, node)?;
+    }
+    Ok(taken)
+}
+
+// What may be marked of a chain.
+#[derive(Clone, Copy)]
+enum Mark {
+    FirstStart,
+    FirstCommit,
+    LastCommit,
+    Readers,
+}
+
+// Which nodes lead to what of the chains of a block: so many words for each node.
+#[derive(Drop)]
+struct Marks {
+    words: Vec<u64>,
+}
+
+// The place of a mark of the chain at a place of its block.
+fn bit_of(place: usize, mark: Mark) -> usize
+    requires { place < 256 }
+{
+    let kind = match mark {
+        Mark::FirstStart => 0,
+        Mark::FirstCommit => 1,
+        Mark::LastCommit => 2,
+        Mark::Readers => 3,
+    };
+    4 * place + kind
+}
+
+impl Marks {
+    // Nothing is marked.
+    fn new(alloc: Global, nodes: u32) -> Result<Marks, AllocError> {
+        Ok(Marks {
+            words: vec![in alloc; 0u64; nodes as usize * WORDS]?,
+        })
+    }
+
+    // Forgets all marks.
+    fn clear(&mut self) {
+        for i in 0..self.words.len() {
+            self.words[i] = 0;
+        }
+    }
+
+    // Whether a node leads to what is marked.
+    fn has(&self, node: u32, place: usize, mark: Mark) -> bool {
+        if place >= CHAINS {
+            return false;
+        }
+        let bit = bit_of(place, mark);
+        match self.words.get(node as usize * WORDS + bit / 64) {
+            Some(word) => (*word >> (bit % 64)) & 1 == 1,
+            None => false,
+        }
+    }
+
+    // Marks a node.
+    fn set(&mut self, node: u32, place: usize, mark: Mark) {
+        if place >= CHAINS {
+            return;
+        }
+        let bit = bit_of(place, mark);
+        let at = node as usize * WORDS + bit / 64;
+        if at < self.words.len() {
+            self.words[at] = self.words[at] | (1u64 << (bit % 64));
+        }
+    }
+
+    // Marks a node with all that another one leads to.
+    fn merge(&mut self, into: u32, from: u32) {
+        let into = into as usize * WORDS;
+        let from = from as usize * WORDS;
+        let words = self.words.as_mut_slice();
+        if into + WORDS > words.len() || from + WORDS > words.len() {
+            return;
+        }
+        for i in 0..WORDS {
+            words[into + i] = words[into + i] | words[from + i];
+        }
+    }
+
+    // Marks a node with all that its edges lead to.
+    fn merge_all(&mut self, web: &Web, by_node: &Lists, node: u32) {
+        let mut at = by_node.first(node as usize);
+        for _ in 0..web.links.len() {
+            let Some(place) = at else {
+                return;
+            };
+            if let Some(link) = web.links.get(place as usize) {
+                self.merge(node, link.to);
+            }
+            at = by_node.next(place);
+        }
+    }
+
+    // Marks each node with all that it leads to.
+    fn sweep(&mut self, web: &Web, by_node: &Lists, order: &[u32]) {
+        for i in 0..order.len() {
+            self.merge_all(web, by_node, order[order.len() - 1 - i]);
+        }
+    }
+
+    // Marks the chains from a place on.
+    fn mark_chains(&mut self, web: &Web, loose: &[Loose], first: usize) {
+        for i in 0..CHAINS {
+            if let Some(chain) = loose.get(first.saturating_add(i)) {
+                self.set(start_of(chain.first), i, Mark::FirstStart);
+                self.set(commit_of(chain.first), i, Mark::FirstCommit);
+                self.set(commit_of(chain.last), i, Mark::LastCommit);
+                self.set(web.chain_node(chain.chain), i, Mark::Readers);
+            }
+        }
+    }
+}
+
+/// What was found, and the graph with it.
+#[derive(Drop)]
+pub struct Finds<'a> {
+    pub web: Web,
+    pub loose: &'a [Loose],
+    pub found: Vec<Found>,
+}
+
+impl Finds<'_> {
+    // Adds that one chain comes before another, where the graph lacks it.
+    fn add(
+        &mut self,
+        marks: &Marks,
+        before: usize,
+        behind: usize,
+        place: usize,
+        upto: u32,
+    ) -> Result<(), AllocError> {
+        if before >= self.loose.len() || behind >= self.loose.len() {
+            return Ok(());
+        }
+        let one = self.loose[before];
+        let other = self.loose[behind];
+        let by_start = marks.has(start_of(one.first), place, Mark::LastCommit);
+        if !by_start && !marks.has(commit_of(one.first), place, Mark::Readers) {
+            return Ok(());
+        }
+        let node = self.web.chain_node(one.chain);
+        let lacks = !marks.has(commit_of(one.last), place, Mark::FirstStart);
+        let lacks_readers = one.read && !marks.has(node, place, Mark::FirstCommit);
+        if !lacks && !lacks_readers {
+            return Ok(());
+        }
+        let number_of = number(self.found.len());
+        self.found.push(Found {
+            before: number(before),
+            behind: number(behind),
+            upto,
+            by_start,
+        })?;
+        if lacks {
+            let from = commit_of(one.last);
+            self.web
+                .add(from, start_of(other.first), Why::Found(number_of))?;
+        }
+        if lacks_readers {
+            let to = commit_of(other.first);
+            self.web.add(node, to, Why::FoundPast(number_of))?;
+        }
+        Ok(())
+    }
+
+    // Adds which chains of its key come before the one at a place of a block.
+    fn add_before(
+        &mut self,
+        marks: &Marks,
+        behind: usize,
+        place: usize,
+        group: (usize, usize),
+        upto: u32,
+    ) -> Result<(), AllocError> {
+        for before in group.0..group.1 {
+            if before != behind {
+                self.add(marks, before, behind, place, upto)?;
+            }
+        }
+        Ok(())
+    }
+
+    // Adds what the marks of a block say.
+    fn add_block(
+        &mut self,
+        marks: &Marks,
+        groups: &[(usize, usize)],
+        first: usize,
+        upto: u32,
+    ) -> Result<(), AllocError> {
+        for place in 0..CHAINS {
+            let behind = first.saturating_add(place);
+            if let Some(group) = groups.get(behind) {
+                self.add_before(marks, behind, place, *group, upto)?;
+            }
+        }
+        Ok(())
+    }
+
+    // Whether the graph and the pairs are few enough.
+    fn are_few(&self, groups: &[(usize, usize)]) -> bool {
+        let blocks = self.loose.len() / CHAINS + 1;
+        if self.web.links.len().saturating_mul(blocks) > MOST_FOLLOWED {
+            return false;
+        }
+        pairs_of(groups) <= MOST_PAIRS
+    }
+
+    /// Adds all that is found at once; whether that is something.
+    pub fn add_round(
+        &mut self,
+        alloc: Global,
+        by_node: &Lists,
+        order: &[u32],
+        groups: &[(usize, usize)],
+    ) -> Result<bool, AllocError> {
+        if !self.are_few(groups) {
+            return Ok(false);
+        }
+        let upto = number(self.found.len());
+        let mut marks = Marks::new(alloc, self.web.nodes)?;
+        let blocks = self.loose.len() / CHAINS + 1;
+        for block in 0..blocks {
+            let first = block.saturating_mul(CHAINS);
+            marks.clear();
+            marks.mark_chains(&self.web, self.loose, first);
+            marks.sweep(&self.web, by_node, order);
+            self.add_block(&marks, groups, first, upto)?;
+        }
+        Ok(number(self.found.len()) > upto)
+    }
+}
+
+// How many pairs of chains of one key there are.
+fn pairs_of(groups: &[(usize, usize)]) -> usize {
+    let mut pairs = 0usize;
+    for i in 0..groups.len() {
+        let (from, upto) = groups[i];
+        pairs = pairs.saturating_add(upto.saturating_sub(from));
+    }
+    pairs
+}
+
+// Where the chains of the same key as the one at a place end.
+fn end_of(loose: &[Loose], from: usize, key: u32) -> usize {
+    for i in from..loose.len() {
+        if loose[i].key != key {
+            return i;
+        }
+    }
+    loose.len()
+}
+
+/// By chain, from where to where those of its key lie.
+pub fn groups_of(alloc: Global, loose: &[Loose]) -> Result<Vec<(usize, usize)>, AllocError> {
+    let mut groups = Vec::new(alloc);
+    let mut from = 0usize;
+    let mut upto = 0usize;
+    for i in 0..loose.len() {
+        if i >= upto {
+            from = i;
+            upto = end_of(loose, i, loose[i].key);
+        }
+        groups.push((from, upto))?;
+    }
+    Ok(groups)
+}
