@@ -28,6 +28,7 @@ use Rattle.tx_core.specs.LastChanges.{turns, IsNoted, NotesAll, Drops}
 use Rattle.tx_core.proofs.evolution.Notes.{turns_on, turns_took, noted_first, noted_on, noted_all}
 use Rattle.tx_journal.specs.Known.{Known, HasSeen, HasRecorded}
 use Rattle.tx_journal.specs.Replies.{Asked, Given, Tells, IsGiven}
+use Rattle.tx_journal.proofs.Replies.{told_by}
 use Rattle.tx_region.specs.Calls.{Executes, Counts}
 use Rattle.tx_region.specs.TakenRequests.{HoldsWhatIsLeft, IsMark, Loads, Knows, Answered}
 
@@ -151,7 +152,7 @@ pub given_by : (bounds : List Key) (n : ℕ) (marked : History) (loaded : ℕ) (
 given_by bounds n marked loaded q a events knows added =
     let g : Given = record { request = q; answer = Some a; events = events } in
     let t = tells_of bounds n marked marked q.by loaded (extends_itself n marked) knows g a refl added in
-    record { run = added.run; told = record { region = n; had = marked; tells = t.0 } }
+    record { run = added.run; told = told_by bounds n marked g a t.0 }
 
 -- ---- records that answer
 
