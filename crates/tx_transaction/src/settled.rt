@@ -33,8 +33,9 @@ impl Settled {
 
     /// How many keys it knows to be settled in a phase.
     pub(crate) fn keys(self, phase: Phase) -> usize
-        ensures { (es : Entries) → IsSettled self es → (k : ℕ) → k < result
+        ensures settled { (es : Entries) → IsSettled self es → (k : ℕ) → k < result
             → wants phase (progress_at es k) ≡ false }
+        ensures all { self.phase ≡ phase → result ≡ self.keys }
     {
         if self.phase == phase { self.keys } else { 0 }
     }
