@@ -1,5 +1,5 @@
 //! Two sessions over a store of two regions, in one thread: each line of the table is a call and
-//! what it answers. docs/LIBRARY.md goes through it.
+//! what it answers. docs/SESSIONS.md goes through it.
 ghost use Rattle.std.specs.Prelude.{◌≡◌, length};
 
 mod regions;
