@@ -84,12 +84,13 @@ class Load:
 
 
 def judge(path, words):
-    """What the program says of a history, in how many seconds of processor and megabytes."""
-    with open(path, "rb") as file, tempfile.TemporaryFile() as out:
-        process = subprocess.Popen([PROGRAM, "import", *words], stdin=file, stdout=out, stderr=subprocess.DEVNULL)
-        _, _, used = os.wait4(process.pid, 0)
-        out.seek(0)
-        return out.readline().decode().strip(), used.ru_utime + used.ru_stime, used.ru_maxrss / 1024
+    """What the program says of a history, in how many seconds of processor and megabytes (of GNU
+    time: what a program takes that Python starts is told as at least what Python has)."""
+    with open(path, "rb") as file:
+        command = ["/usr/bin/time", "-f", "%U %S %M", PROGRAM, "import", *words]
+        done = subprocess.run(command, stdin=file, capture_output=True, text=True, check=False)
+    user, kernel, size = done.stderr.splitlines()[-1].split()
+    return done.stdout.split("\n")[0], float(user) + float(kernel), int(size) / 1024
 
 
 def arguments(about, levels):
@@ -98,9 +99,10 @@ def arguments(about, levels):
     for name, default in (("transactions", 6000), ("clients", 8), ("keys", 30), ("seed", 1)):
         parser.add_argument("--" + name, type=int, default=default)
     parser.add_argument("--kind", choices=PUTS, action="append")
-    parser.add_argument("--keep", default=tempfile.mkdtemp(prefix="histories-"), help="a folder for the histories")
+    parser.add_argument("--keep", help="a folder for the histories")
     parser.add_argument("levels", nargs="*", choices=[*levels, []])
     asked = parser.parse_args()
+    asked.keep = asked.keep or tempfile.mkdtemp(prefix="histories-")
     os.makedirs(asked.keep, exist_ok=True)
     asked.levels, asked.kind = asked.levels or list(levels), asked.kind or list(PUTS)
     return asked
