@@ -164,7 +164,7 @@ class Refusals(unittest.TestCase):
             self.refused("{:type :ok :value []}\n" + text, 2, "no operation")
 
     def test_values_that_are_no_transaction(self):
-        for value in ("", ":value nil", ":value [[:cas 1 2]]", ":value [1 2]", ":value {:a 1}", ":value [:w 1 2]", ':value [["w" 1 2]]'):
+        for value in ("", ":value nil", ":value [[:cas 1 2]]", ":value [1 2]", ":value {:a 1}", ":value [:w 1 2]", ":value #{[:w 1 2]}", ':value [["w" 1 2]]'):
             for kind in ("invoke", "ok", "fail", "info"):
                 for f in ("", ":f :txn"):
                     self.refused("{:type :%s :process 1 %s %s}" % (kind, f, value), 1, "an operation whose :value is no transaction")
@@ -173,6 +173,7 @@ class Refusals(unittest.TestCase):
         for wrong in ("nil", "true", "-1", "1.0", "18446744073709551616", "[1]", "{}", "#{1}", "\\a", '#inst "2026"', "1/2"):
             for op in ("[:w 1 %s]", "[:append %s 1]", "[:r %s 1]", "[:r 1 [2 %s]]"):
                 self.refused("{:type :ok :value [%s]}" % (op % wrong), 1, "a (key|value) that is neither")
+        self.refused("{:type :ok :value [[:r 1 #{2}]]}", 1, "a value that is neither")
         self.refused("{:type :ok :process 1.5 :value []}", 1, "a process that is neither")
         self.refused("{:type :ok :time 1.5 :value []}", 1, "a :time")
         self.refused("{:type :ok :time -1 :value []}", 1, "a :time")
