@@ -1,0 +1,5 @@
+//! Tests of keys of several parts.
+#![tactic(auto)]
+
+#[cfg(test)]
+mod tests;
