@@ -3,27 +3,25 @@ use Rattle.std.proofs.Common.{◌≡◌, ◌+◌, inl, inr, ℕ, zero, suc, List
 use Rattle.tx_types.specs.declared.key.Key.{Key}
 use Rattle.tx_types.specs.declared.lock.LockInfo.{LockInfo}
 use Rattle.tx_types.specs.declared.fault.Fault.{Fault}
-use Rattle.tx_plan.specs.declared.answer.Answer.{Answer}
 use Rattle.tx_plan.specs.declared.answer.Answer.TheVariants as answer
 use Rattle.tx_plan.specs.declared.body.Body.{Body}
 use Rattle.tx_plan.specs.declared.body.Body.TheVariants as body
 use Rattle.tx_core.specs.declared.event.Event.TheVariants.{Took}
 use Rattle.tx_core.specs.Histories.{History, Begins}
 use Rattle.tx_core.proofs.seats.Stays.{among_on}
-use Rattle.tx_core.proofs.seats.Beginnings.{begins_more}
 use Rattle.tx_journal.specs.Known.{Known}
 use Rattle.tx_journal.specs.Replies.{Asked, Given}
 use Rattle.tx_journal.specs.Senders.{IsSender, Reached}
 use Rattle.tx_transaction.specs.Returns.{Response}
-use Rattle.tx_client.specs.Learns.{response_of, Learns}
+use Rattle.tx_client.specs.Learns.{response_of}
 use Rattle.tx_client.specs.Facts.{WasAnswered, RespondsSo}
 use Rattle.tx_client.specs.Walks.{Walk, asks, grows, ends, then_walk, Sends}
 use Rattle.tx_client.proofs.Calls.{came_reached}
 use Rattle.tx_resolve.specs.declared.collector.Counts.{Counts}
 use Rattle.tx_resolve.specs.Resolution.{resolve_walk}
-use Rattle.tx_resolve.specs.Collection.{on_ok, in_regions, raised_by, listed_by, dropped_by, collected_by, added, raise_walk, list_walk, locks_walk, clear_walk, collect_walk, raises_walk, clears_walk, collects_walk, gc_walk}
+use Rattle.tx_resolve.specs.Collection.{on_ok, in_regions, raised_by, listed_by, collected_by, added, raise_walk, list_walk, locks_walk, clear_walk, collect_walk, raises_walk, clears_walk, collects_walk, gc_walk}
 use Rattle.tx_reader.proofs.Observers.{sent_sees, sees_begins}
-use Rattle.tx_kv.specs.Collections.{AreRaised, AreDropped, HasCollected, IsCollectFault, WasTold}
+use Rattle.tx_kv.specs.Collections.{AreRaised, AreDropped, HasCollected, IsCollectFault}
 
 -- each end of a walk is so, where what comes of its requests was answered in this history
 abbrev Comes : {R : Type 0} → (R → Type 0) → History → Walk R → Type 0

@@ -5,6 +5,7 @@ mod client;
 mod collection;
 mod found;
 mod live;
+mod many;
 mod pages;
 mod pin;
 mod program;

@@ -1,6 +1,7 @@
 //! A page of a range at a timestamp.
 ghost use Rattle.std.specs.Prelude.{◌≡◌, ◌<◌, IfOk, IfErr, IsTrue, Some};
 ghost use Rattle.tx_types.specs.Keys.{key_lt};
+ghost use Rattle.tx_core.specs.Histories.{last};
 ghost use Rattle.tx_journal.specs.Senders.{IsSender, LosesNothing};
 ghost use Rattle.tx_reader.specs.Readers.{OnlySees};
 ghost use Rattle.tx_simple.specs.Ranges.{IsRestOf, end_of_page};
@@ -37,7 +38,8 @@ fn first_rows<J: JournalId, S: Sender<Request<J>, Reply<J>>>(
     ensures seat { OnlySees reader.old.seat reader.new.seat }
     ensures finds { IfOk result
         (λ r. SeesRange reader.new.seat.events reader.old.at (Some from.now) (Some r.1) r.0.items) }
-    ensures err { IfErr result (IsViewStop reader.old.at) }
+    ensures err { IfErr result
+        (IsViewStop reader.new.seat.events (last reader.old.seat.events) reader.old.at) }
 {
     let part = page(reader, from, to, limit, sender)?;
     reader.know_run();
@@ -58,7 +60,8 @@ fn whole<J: JournalId, S: Sender<Request<J>, Reply<J>>>(
     ensures finds { IfOk result (λ page. SeesRange reader.new.seat.events reader.old.at (Some range.from)
         (end_of_page range page.rest) page.rows.items) }
     ensures rest { IfOk result (λ page. IsRestOf range page.rest) }
-    ensures err { IfErr result (IsViewStop reader.old.at) }
+    ensures err { IfErr result
+        (IsViewStop reader.new.seat.events (last reader.old.seat.events) reader.old.at) }
 {
     let rows = rows_of(alloc, reader, &range, sender)?;
     Ok(Page { rows, rest: None })
@@ -79,7 +82,8 @@ pub(crate) fn page_of<J: JournalId, S: Sender<Request<J>, Reply<J>>>(
     ensures finds { IfOk result (λ page. SeesRange reader.new.seat.events reader.old.at (Some range.from)
         (end_of_page range page.rest) page.rows.items) }
     ensures rest { IfOk result (λ page. IsRestOf range page.rest) }
-    ensures err { IfErr result (IsViewStop reader.old.at) }
+    ensures err { IfErr result
+        (IsViewStop reader.new.seat.events (last reader.old.seat.events) reader.old.at) }
 {
     let end = match &range.to {
         Some(to) => to.clone()?,

@@ -1,6 +1,7 @@
 //! The rows of a range at a timestamp, page by page, each of one region.
 ghost use Rattle.std.specs.Prelude.{◌≡◌, IfOk, IfErr, IsTrue, Some, None};
 ghost use Rattle.tx_types.specs.Keys.{is_between, is_scanned, key_le, key_lt};
+ghost use Rattle.tx_core.specs.Histories.{last};
 ghost use Rattle.tx_journal.specs.Senders.{IsSender, LosesNothing};
 ghost use Rattle.tx_reader.specs.Readers.{OnlySees};
 ghost use Rattle.tx_laws.specs.Rows.{AreRowsOf};
@@ -32,7 +33,8 @@ pub(crate) fn page<J: JournalId, S: Sender<Request<J>, Reply<J>>>(
     ensures some { IfOk result (λ r. IsTrue (key_lt from.now to.now) → IsTrue (key_lt from.now r.1)) }
     ensures finds { IfOk result (λ r. AreRowsOf (is_scanned from.now r.1 limit r.0)
         (SeesOn J.bounds reader.new.seat.events reader.old.at) r.0) }
-    ensures err { IfErr result (IsViewStop reader.old.at) }
+    ensures err { IfErr result
+        (IsViewStop reader.new.seat.events (last reader.old.seat.events) reader.old.at) }
 {
     let end = end_of_part(sender.bounds(), from, to).clone()?;
     let answered = reader.scan(from, &end, limit, sender);
@@ -56,7 +58,8 @@ fn pages<J: JournalId, S: Sender<Request<J>, Reply<J>>>(
     ensures seat { OnlySees reader.old.seat reader.new.seat }
     ensures finds { IfOk result (λ rows. AreRowsOf (is_between from.now to.now)
         (SeesOn J.bounds reader.new.seat.events reader.old.at) rows.items) }
-    ensures err { IfErr result (IsViewStop reader.old.at) }
+    ensures err { IfErr result
+        (IsViewStop reader.new.seat.events (last reader.old.seat.events) reader.old.at) }
 {
     let mut rows = Vec::new(alloc);
     let mut next = from.clone()?;
@@ -86,7 +89,8 @@ fn rows_upto<J: JournalId, S: Sender<Request<J>, Reply<J>>>(
     ensures seat { OnlySees reader.old.seat reader.new.seat }
     ensures finds { IfOk result
         (λ rows. SeesRange reader.new.seat.events reader.old.at (Some from.now) (Some to.now) rows.items) }
-    ensures err { IfErr result (IsViewStop reader.old.at) }
+    ensures err { IfErr result
+        (IsViewStop reader.new.seat.events (last reader.old.seat.events) reader.old.at) }
 {
     let rows = pages(alloc, reader, from, to, sender)?;
     reader.know_run();
@@ -106,7 +110,8 @@ fn rows_from<J: JournalId, S: Sender<Request<J>, Reply<J>>>(
     ensures seat { OnlySees reader.old.seat reader.new.seat }
     ensures finds { IfOk result
         (λ rows. SeesRange reader.new.seat.events reader.old.at (Some from.now) None rows.items) }
-    ensures err { IfErr result (IsViewStop reader.old.at) }
+    ensures err { IfErr result
+        (IsViewStop reader.new.seat.events (last reader.old.seat.events) reader.old.at) }
 {
     let top = greatest(alloc)?;
     let mut rows = pages(alloc, reader, from, &top, sender)?;
@@ -133,7 +138,8 @@ pub(crate) fn rows_of<J: JournalId, S: Sender<Request<J>, Reply<J>>>(
     ensures seat { OnlySees reader.old.seat reader.new.seat }
     ensures finds { IfOk result
         (λ rows. SeesRange reader.new.seat.events reader.old.at (Some range.now.from) range.now.to rows.items) }
-    ensures err { IfErr result (IsViewStop reader.old.at) }
+    ensures err { IfErr result
+        (IsViewStop reader.new.seat.events (last reader.old.seat.events) reader.old.at) }
 {
     match &range.to {
         Some(to) => rows_upto(alloc, reader, &range.from, to, sender),

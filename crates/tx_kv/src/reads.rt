@@ -1,14 +1,16 @@
 //! Reads of a client at a timestamp.
 ghost use Rattle.std.specs.Prelude.{◌≡◌, IfOk, IfErr, Some};
 ghost use Rattle.tx_machine.specs.Machine.{Sees, table_of};
+ghost use Rattle.tx_core.specs.Histories.{last};
 ghost use Rattle.tx_core.specs.Shadow.{shadow};
 ghost use Rattle.tx_journal.specs.Known.{HasDrawn};
 ghost use Rattle.tx_reader.specs.Readers.{OnlySees};
 ghost use Rattle.tx_simple.specs.Ranges.{IsRestOf, end_of_page};
-ghost use Rattle.tx_kv.specs.Views.{IsViewStop, SeesRange};
+ghost use Rattle.tx_simple.specs.Stops.{NamesKey};
+ghost use Rattle.tx_kv.specs.Views.{IsViewStop, SeesEach, SeesRange};
 
 use crate::client::Client;
-use crate::found::found_in;
+use crate::many::{found_all, found_at};
 use crate::pages::page_of;
 use crate::ranges::rows_of;
 use std::sync::Wait;
@@ -63,7 +65,9 @@ impl<'a, J: JournalId, R: Wait> Client<'a, J, R> {
     pub(crate) fn get_at(&mut self, at: Ts, key: &Key) -> Result<Option<Value>, Stop>
         ensures finds { IfOk result
             (λ found. Sees (table_of (shadow self.new.seats.resolves.events)).row key.now at found) }
-        ensures err { IfErr result (IsViewStop at) }
+        ensures err { IfErr result
+            (IsViewStop self.new.seats.resolves.events (last self.old.seats.resolves.events) at) }
+        ensures names { IfErr result (NamesKey key.now) }
         ensures begins { self.new.seats.begins ≡ self.old.seats.begins }
         ensures resolves { OnlySees self.old.seats.resolves self.new.seats.resolves }
         ensures terms { (self.new.terms ≡ self.old.terms) × (self.new.again ≡ self.old.again) }
@@ -73,10 +77,31 @@ impl<'a, J: JournalId, R: Wait> Client<'a, J, R> {
         };
         let mut wire = Wire::new(self.rt, self.store);
         let mut reader = Reader::new(self.alloc, resolves, at);
-        let answered = reader.get(key, &mut wire);
+        let found = found_at(&mut reader, key, &mut wire);
         let resolves = reader.into_seat();
         self.seats = Some(Seats { begins, resolves });
-        found_in(answered)
+        found
+    }
+
+    /// The values of some keys at a timestamp.
+    pub(crate) fn get_many_at(&mut self, at: Ts, keys: &[Key]) -> Result<Vec<Option<Value>>, Stop>
+        ensures finds { IfOk result
+            (λ found. SeesEach self.new.seats.resolves.events at keys.now found.items) }
+        ensures err { IfErr result
+            (IsViewStop self.new.seats.resolves.events (last self.old.seats.resolves.events) at) }
+        ensures begins { self.new.seats.begins ≡ self.old.seats.begins }
+        ensures resolves { OnlySees self.old.seats.resolves self.new.seats.resolves }
+        ensures terms { (self.new.terms ≡ self.old.terms) × (self.new.again ≡ self.old.again) }
+    {
+        let Some(Seats { begins, resolves }) = self.seats.take() else {
+            unreachable!()
+        };
+        let mut wire = Wire::new(self.rt, self.store);
+        let mut reader = Reader::new(self.alloc, resolves, at);
+        let found = found_all(self.alloc, &mut reader, keys, &mut wire);
+        let resolves = reader.into_seat();
+        self.seats = Some(Seats { begins, resolves });
+        found
     }
 
     /// The first rows of a range at a timestamp, so many at most, and what is left of it.
@@ -84,7 +109,8 @@ impl<'a, J: JournalId, R: Wait> Client<'a, J, R> {
         ensures finds { IfOk result (λ page. SeesRange self.new.seats.resolves.events at (Some range.from)
             (end_of_page range page.rest) page.rows.items) }
         ensures rest { IfOk result (λ page. IsRestOf range page.rest) }
-        ensures err { IfErr result (IsViewStop at) }
+        ensures err { IfErr result
+            (IsViewStop self.new.seats.resolves.events (last self.old.seats.resolves.events) at) }
         ensures begins { self.new.seats.begins ≡ self.old.seats.begins }
         ensures resolves { OnlySees self.old.seats.resolves self.new.seats.resolves }
         ensures terms { (self.new.terms ≡ self.old.terms) × (self.new.again ≡ self.old.again) }
@@ -104,7 +130,8 @@ impl<'a, J: JournalId, R: Wait> Client<'a, J, R> {
     pub(crate) fn rows_at(&mut self, at: Ts, range: &KeyRange) -> Result<Vec<KeyValue>, Stop>
         ensures finds { IfOk result
             (λ rows. SeesRange self.new.seats.resolves.events at (Some range.now.from) range.now.to rows.items) }
-        ensures err { IfErr result (IsViewStop at) }
+        ensures err { IfErr result
+            (IsViewStop self.new.seats.resolves.events (last self.old.seats.resolves.events) at) }
         ensures begins { self.new.seats.begins ≡ self.old.seats.begins }
         ensures resolves { OnlySees self.old.seats.resolves self.new.seats.resolves }
         ensures terms { (self.new.terms ≡ self.old.terms) × (self.new.again ≡ self.old.again) }

@@ -1,13 +1,16 @@
 //! Reads of a client alone, at one timestamp.
 ghost use Rattle.std.specs.Prelude.{◌≡◌, IfOk, IfErr, Some};
 ghost use Rattle.tx_machine.specs.Machine.{Sees, table_of};
+ghost use Rattle.tx_core.specs.Histories.{last};
 ghost use Rattle.tx_core.specs.Shadow.{shadow};
 ghost use Rattle.tx_journal.specs.Known.{HasDrawn};
 ghost use Rattle.tx_reader.specs.Readers.{OnlySees};
 ghost use Rattle.tx_simple.specs.Ranges.{IsRestOf, end_of_page};
-ghost use Rattle.tx_kv.specs.Views.{IsViewStop, SeesRange};
+ghost use Rattle.tx_simple.specs.Stops.{NamesKey};
+ghost use Rattle.tx_kv.specs.Views.{IsViewStop, SeesEach, SeesLast, SeesRange};
 
 use crate::client::Client;
+use crate::many::last_of;
 use std::alloc::Global;
 use std::sync::Wait;
 use tx_journal::JournalId;
@@ -88,15 +91,18 @@ impl<'v, 'a, J: JournalId, R: Wait> View<'v, 'a, J, R> {
     }
 
     /// The value of a key: what the one-step machine sees there. A lock in the way is resolved. It
-    /// stops by what a read of a transaction does: `Waits` where the transaction of a lock lives or
-    /// cannot be asked, `BelowSafePoint` where its timestamp lies below the safe point, `Lost`
-    /// where no reply came, `Refused` for want of memory; and by `Refused(FutureTimestamp)` where
-    /// its timestamp lies above the last number that the region knows to be drawn. It stops by
-    /// nothing else: never by a conflict.
+    /// stops by `Waits` of the key where the transaction of a lock lives or cannot be asked,
+    /// `BelowSafePoint` where its timestamp lies below the safe point, `Refused(FutureTimestamp)`
+    /// where that lies above the last number that the region knows to be drawn, each as a read
+    /// there was answered; and by `Refused` for want of memory. It stops by nothing else: never by
+    /// `FutureTimestamp` at a timestamp that this client has drawn for a view, and never by a
+    /// conflict or a lost reply.
     pub fn get(&mut self, key: &Key) -> Result<Option<Value>, Stop>
         ensures finds { IfOk result (λ found. Sees (table_of (shadow self.new.client.now.seats.resolves.events)).row
             key.now self.old.at found) }
-        ensures err { IfErr result (IsViewStop self.old.at) }
+        ensures err { IfErr result (IsViewStop self.new.client.now.seats.resolves.events
+            (last self.old.client.now.seats.resolves.events) self.old.at) }
+        ensures names { IfErr result (NamesKey key.now) }
         ensures begins { self.new.client.now.seats.begins ≡ self.old.client.now.seats.begins }
         ensures resolves { OnlySees self.old.client.now.seats.resolves self.new.client.now.seats.resolves }
         ensures same { (self.new.at ≡ self.old.at) × (self.new.client.ghost_name ≡ self.old.client.ghost_name) }
@@ -104,18 +110,54 @@ impl<'v, 'a, J: JournalId, R: Wait> View<'v, 'a, J, R> {
         self.client.get_at(self.at, key)
     }
 
+    /// The values of some keys, in their order: of each what `get` finds of it. It stops only by
+    /// what `get` does, and then there are none.
+    pub fn get_many(&mut self, keys: &[Key]) -> Result<Vec<Option<Value>>, Stop>
+        ensures finds { IfOk result
+            (λ found. SeesEach self.new.client.now.seats.resolves.events self.old.at keys.now found.items) }
+        ensures err { IfErr result (IsViewStop self.new.client.now.seats.resolves.events
+            (last self.old.client.now.seats.resolves.events) self.old.at) }
+        ensures begins { self.new.client.now.seats.begins ≡ self.old.client.now.seats.begins }
+        ensures resolves { OnlySees self.old.client.now.seats.resolves self.new.client.now.seats.resolves }
+        ensures same { (self.new.at ≡ self.old.at) × (self.new.client.ghost_name ≡ self.old.client.ghost_name) }
+    {
+        self.client.get_many_at(self.at, keys)
+    }
+
     /// The rows of a range, of any number: from a key, or from the least, and up to but not
     /// including another, or to the greatest. It stops only by what `get` does.
     pub fn range(&mut self, from: Option<Key>, to: Option<Key>) -> Result<Vec<KeyValue>, Stop>
         ensures finds { IfOk result
             (λ rows. SeesRange self.new.client.now.seats.resolves.events self.old.at from to rows.items) }
-        ensures err { IfErr result (IsViewStop self.old.at) }
+        ensures err { IfErr result (IsViewStop self.new.client.now.seats.resolves.events
+            (last self.old.client.now.seats.resolves.events) self.old.at) }
         ensures begins { self.new.client.now.seats.begins ≡ self.old.client.now.seats.begins }
         ensures resolves { OnlySees self.old.client.now.seats.resolves self.new.client.now.seats.resolves }
         ensures same { (self.new.at ≡ self.old.at) × (self.new.client.ghost_name ≡ self.old.client.ghost_name) }
     {
         let range = KeyRange::new(self.alloc(), from, to)?;
         self.client.rows_at(self.at, &range)
+    }
+
+    /// The last `limit` rows of a range, told from its end: the last ones that `range` has, the
+    /// last of them first. It asks for the whole range, page by page from its front, and drops the
+    /// others: it costs what `range` does. It stops only by what `get` does.
+    pub fn range_back(
+        &mut self,
+        from: Option<Key>,
+        to: Option<Key>,
+        limit: u32,
+    ) -> Result<Vec<KeyValue>, Stop>
+        ensures finds { IfOk result (λ rows. SeesLast self.new.client.now.seats.resolves.events self.old.at
+            from to limit rows.items) }
+        ensures err { IfErr result (IsViewStop self.new.client.now.seats.resolves.events
+            (last self.old.client.now.seats.resolves.events) self.old.at) }
+        ensures begins { self.new.client.now.seats.begins ≡ self.old.client.now.seats.begins }
+        ensures resolves { OnlySees self.old.client.now.seats.resolves self.new.client.now.seats.resolves }
+        ensures same { (self.new.at ≡ self.old.at) × (self.new.client.ghost_name ≡ self.old.client.ghost_name) }
+    {
+        let rows = self.range(from, to)?;
+        Ok(last_of(rows, limit))
     }
 
     /// The first rows of a range, `limit` at most where its end is given, and what is left of it,
@@ -130,7 +172,8 @@ impl<'v, 'a, J: JournalId, R: Wait> View<'v, 'a, J, R> {
         ensures finds { IfOk result (λ page. SeesRange self.new.client.now.seats.resolves.events self.old.at
             (Some range.from) (end_of_page range page.rest) page.rows.items) }
         ensures rest { IfOk result (λ page. IsRestOf range page.rest) }
-        ensures err { IfErr result (IsViewStop self.old.at) }
+        ensures err { IfErr result (IsViewStop self.new.client.now.seats.resolves.events
+            (last self.old.client.now.seats.resolves.events) self.old.at) }
         ensures begins { self.new.client.now.seats.begins ≡ self.old.client.now.seats.begins }
         ensures resolves { OnlySees self.old.client.now.seats.resolves self.new.client.now.seats.resolves }
         ensures same { (self.new.at ≡ self.old.at) × (self.new.client.ghost_name ≡ self.old.client.ghost_name) }

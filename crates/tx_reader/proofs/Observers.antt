@@ -1,5 +1,5 @@
 -- Seats that only see what others did, and what a read at a timestamp finds.
-use Rattle.std.proofs.Common.{◌≡◌, inl, inr, ℕ, IsTrue, true, List, [], ◌∷◌, ◌++◌, Contains, Option, Some, None, Result, Ok, Err, IfOk, IfErr, OnOk, OnErr, refl, sym, ap, subst, ◌∙◌}
+use Rattle.std.proofs.Common.{◌≡◌, arith, inl, inr, ℕ, IsTrue, true, List, [], ◌∷◌, ◌++◌, Contains, Option, Some, None, Result, Ok, Err, IfOk, IfErr, OnOk, OnErr, refl, sym, ap, subst, ◌∙◌}
 use Rattle.std.proofs.lemmas.List.Elements.{Contains-push, Contains-push_cases}
 use Rattle.tx_types.specs.declared.key.Key.{Key}
 use Rattle.tx_types.specs.declared.lock.LockInfo.{LockInfo}
@@ -13,6 +13,7 @@ use Rattle.tx_machine.specs.Machine.{SeesRows, table_of}
 use Rattle.tx_core.specs.Histories.{History, Begins}
 use Rattle.tx_core.specs.Shadow.{shadow}
 use Rattle.tx_core.specs.Worlds.{IsWorldRun}
+use Rattle.tx_core.specs.declared.event.Event.TheVariants.{Took}
 use Rattle.tx_core.specs.Recording.{Extends}
 use Rattle.tx_core.specs.Allowed.{MayPass, AllowsRead}
 use Rattle.tx_core.specs.Decisions.{infos_in}
@@ -20,7 +21,7 @@ use Rattle.tx_core.specs.Laws.{WasToldOf}
 use Rattle.tx_core.proofs.seats.Beginnings.{extends_all, extends_more, extends_begins}
 use Rattle.tx_journal.specs.Known.{Known, HasSeen}
 use Rattle.tx_journal.specs.Replies.{Asked}
-use Rattle.tx_core.proofs.seats.Stays.{among_on}
+use Rattle.tx_core.proofs.seats.Stays.{among_on, last_on}
 use Rattle.tx_journal.specs.Senders.{IsHeld, LosesNothing, Reached}
 use Rattle.tx_transaction.specs.declared.state.Miss.TheVariants as miss
 use Rattle.tx_client.specs.Learns.{response_by, response_of, Learns}
@@ -38,7 +39,8 @@ use Rattle.tx_reader.specs.declared.read.Read.TheVariants.{Key as OfKey, Part}
 use Rattle.tx_reader.specs.Readers.{FindsAt, IsOfOneRegion, IsReadOf, OnlySees, ReadsAt}
 
 pub sees_itself : (k : Known) → OnlySees k k
-sees_itself k = record { number = refl; ticks = refl; others = extends_all k.seat k.events }
+sees_itself k =
+    record { number = refl; ticks = refl; others = extends_all k.seat k.events; drawn = omega arith }
 
 pub sees_same : (k new : Known) → new ≡ k → OnlySees k new
 sees_same k new same = subst (λ (z : Known). OnlySees k z) (sym same) (sees_itself k)
@@ -49,6 +51,7 @@ sees_more a b c p q = record {
   ticks = q.ticks ∙ p.ticks;
   others = extends_more a.seat a.events b.events c.events p.others
       (subst (λ (i : ℕ). Extends i b.events c.events) p.number q.others);
+  drawn = omega (arith, p.drawn, q.drawn);
 }
 
 pub sees_begins : (old new : Known) → OnlySees old new → Begins old.events new.events
@@ -56,7 +59,12 @@ sees_begins old new s = extends_begins old.seat old.events new.events s.others
 
 pub sees_seen : (bounds : List Key) (old new : Known) → new.seat ≡ old.seat → new.ticks ≡ old.ticks
     → HasSeen bounds old.seat old.events new.events → OnlySees old new
-sees_seen bounds old new number ticks seen = record { number = number; ticks = ticks; others = seen.extends }
+sees_seen bounds old new number ticks seen = record {
+  number = number;
+  ticks = ticks;
+  others = seen.extends;
+  drawn = last_on bounds old.events new.events seen.run (extends_begins old.seat old.events new.events seen.extends);
+}
 
 module _ (bounds : List Key) where
   pub learns_sees : (k new : Known) (reached : Reached) → Learns bounds k reached new → OnlySees k new
@@ -99,6 +107,15 @@ module _ {S : Type 0} (sends : S → Asked → Reached → S → Type 0) (bounds
   sent_runs (grows more short) k new from to r run (inr sent) = sent_runs more k new from to r run sent
   sent_runs (asks b more) k new from to r run (reached, mid, now, sent, learns, rest) =
       sent_runs (more (response_of reached)) now new mid to r (learns_run bounds k now reached run learns) rest
+
+-- what was answered stays so
+pub was_on : (l h : History) → Begins l h → (b : Body) (a : Answer) → WasAnswered l b a → WasAnswered h b a
+was_on l h begins b a was = record {
+  by = was.by;
+  among = among_on l h begins (Took was.by) was.among;
+  asked = was.asked;
+  told = was.told;
+}
 
 -- a lock that an answer names was told of
 pub locked_told : (h : History) (b : Body) (info : LockInfo) → WasAnswered h b (answer.KeyIsLocked info)
@@ -187,7 +204,8 @@ held_of bounds (Part from to limit) one at b is = absurd is
 -- what an answer to a read finds is what the machine sees
 pub found_by : (bounds : List Key) (h : History) → IsWorldRun bounds h → (at : ℕ) (read : Read) (b : Body)
     → IsReadOf read at b → (a : Answer) → WasAnswered h b a → FindsAt bounds h at read a
-found_by bounds h run at (OfKey key) (body.Get b) is a was = found_so bounds h run b at key is.0 is.1 a was
+found_by bounds h run at (OfKey key) (body.Get b) is a was =
+    λ later begins now. found_so bounds later now b at key is.0 is.1 a (was_on h later begins (body.Get b) a was)
 found_by bounds h run at (OfKey key) b is a was = absurd is
 found_by bounds h run at (Part from to limit) (body.Scan b) (low, high, most, time) (answer.Rows rows) was =
     λ later begins now.
@@ -202,7 +220,7 @@ found_by bounds h run at (Part from to limit) b is a was = absurd is
 -- a lock in the way finds nothing
 pub locked_finds : (bounds : List Key) (h : History) (at : ℕ) (read : Read) (info : LockInfo)
     → FindsAt bounds h at read (answer.KeyIsLocked info)
-locked_finds bounds h at (OfKey key) info = tt
+locked_finds bounds h at (OfKey key) info = λ later begins now. tt
 locked_finds bounds h at (Part from to limit) info = tt
 
 -- what the last look found, if it was answered

@@ -2,13 +2,13 @@
 ghost use Rattle.std.specs.Prelude.{◌≡◌, IfOk, IfErr};
 ghost use Rattle.tx_plan.specs.declared.body.Body.{Body as Sent};
 ghost use Rattle.tx_core.specs.Allowed.{Allowed};
-ghost use Rattle.tx_core.specs.Histories.{Begins};
+ghost use Rattle.tx_core.specs.Histories.{Begins, last};
 ghost use Rattle.tx_core.specs.Laws.{WasToldOf};
 ghost use Rattle.tx_core.specs.Worlds.{IsWorldRun};
 ghost use Rattle.tx_journal.specs.Senders.{IsSender, LosesNothing};
 ghost use Rattle.tx_transaction.specs.declared.state.Miss.TheVariants.{Fault as Short};
 ghost use Rattle.tx_client.specs.Facts.{WasAnswered};
-ghost use Rattle.tx_reader.specs.Readers.{AreTogether, IsAnswerTo, IsKeyAnswer, IsOfOneRegion, IsPartAnswer, IsReadOf, FindsAt, OnlySees, ReadsAt, ScansAt};
+ghost use Rattle.tx_reader.specs.Readers.{AreTogether, IsAnswerTo, IsKeyAnswer, IsOfOneRegion, IsPartAnswer, IsReadOf, FindsAt, LoadedFrom, OnlySees, ReadsOn, ScansAt};
 
 use crate::read::Read;
 use std::alloc::Global;
@@ -118,6 +118,7 @@ impl<J: JournalId> Reader<J> {
         ensures run { IsWorldRun J.bounds self.new.seat.events }
         ensures told { IfOk result (λ a. (b : Sent) × IsReadOf read.now self.old.at b
             × WasAnswered self.new.seat.events b a) }
+        ensures loaded { IfOk result (LoadedFrom (last self.old.seat.events)) }
         ensures lossless { LosesNothing S.sends → IfErr result (λ m. m ≡ Short) }
     {
         let Ok(body) = self.body_of(read) else {
@@ -173,7 +174,8 @@ impl<J: JournalId> Reader<J> {
         ensures at { self.new.at ≡ self.old.at }
         ensures seat { OnlySees self.old.seat self.new.seat }
         ensures finds { IfOk result (FindsAt J.bounds self.new.seat.events self.old.at read.now) }
-        ensures may { IfOk result (IsAnswerTo self.old.at read.now) }
+        ensures may { IfOk result
+            (IsAnswerTo self.new.seat.events (last self.old.seat.events) self.old.at read.now) }
         ensures lossless { LosesNothing S.sends → IfErr result (λ m. m ≡ Short) }
     {
         let now = self.seat.last();
@@ -193,8 +195,10 @@ impl<J: JournalId> Reader<J> {
     /// Reads a key. A lock in the way is resolved, as at the last timestamp that was drawn;
     /// `KeyIsLocked` where it still stands there. It finds what the one-step machine sees. It is
     /// answered `BelowSafePoint` where its timestamp lies below the safe point, `FutureTimestamp`
-    /// where that was not drawn yet, and nothing else. Where the sender loses nothing it goes
-    /// without an answer for want of memory alone.
+    /// where that lies above the last number that the region knows to be drawn, and so never one
+    /// that the seat has seen drawn, and nothing else; each as a read at its timestamp was
+    /// answered. Where the sender loses nothing it goes without an answer for want of memory
+    /// alone.
     pub fn get<S: Sender<Request<J>, Reply<J>>>(
         &mut self,
         key: &Key,
@@ -203,8 +207,9 @@ impl<J: JournalId> Reader<J> {
         requires way { IsSender J.bounds S.fits S.sends S.keys_between }
         ensures at { self.new.at ≡ self.old.at }
         ensures seat { OnlySees self.old.seat self.new.seat }
-        ensures finds { IfOk result (ReadsAt self.new.seat.events self.old.at key.now) }
-        ensures may { IfOk result (IsKeyAnswer self.old.at) }
+        ensures finds { IfOk result (ReadsOn J.bounds self.new.seat.events self.old.at key.now) }
+        ensures may { IfOk result
+            (IsKeyAnswer self.new.seat.events (last self.old.seat.events) self.old.at key.now) }
         ensures lossless { LosesNothing S.sends → IfErr result (λ m. m ≡ Short) }
     {
         let Ok(key) = key.clone() else {
@@ -228,7 +233,7 @@ impl<J: JournalId> Reader<J> {
         ensures at { self.new.at ≡ self.old.at }
         ensures seat { OnlySees self.old.seat self.new.seat }
         ensures finds { IfOk result (ScansAt J.bounds self.new.seat.events self.old.at from.now to.now limit) }
-        ensures may { IfOk result (IsPartAnswer self.old.at) }
+        ensures may { IfOk result (IsPartAnswer self.new.seat.events (last self.old.seat.events) self.old.at) }
         ensures lossless { LosesNothing S.sends → IfErr result (λ m. m ≡ Short) }
     {
         let (Ok(from), Ok(to)) = (from.clone(), to.clone()) else {

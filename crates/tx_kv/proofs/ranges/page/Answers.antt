@@ -1,6 +1,7 @@
 use Rattle.std.proofs.Common.{List, IsTrue, rules, sym, subst, ◌∙◌}
 use Rattle.tx_types.specs.declared.key.Key.{Key}
 use Rattle.tx_types.specs.Keys.{key_le, key_lt}
+use Rattle.tx_core.specs.Histories.{last}
 use Rattle.tx_reader.specs.Readers.{AreTogether}
 use Rattle.tx_reader.proofs.Observers.{sees_itself}
 use Rattle.tx_simple.proofs.ReadAnswers.{page_told}
@@ -38,7 +39,9 @@ returns-clause-finds g c =
 
 pub returns-in_err-rows-clause-err : goal.returns-in_err-rows-clause-err
 returns-in_err-rows-clause-err g c =
-    let why : IsViewStop c.args.reader.now.at c.in_err-rows.field-0.0 =
-    c.in_err-rows.ensures.err c.args.reader.now.at c.scan-answered.ensures.may
+    let events = c.scan-answered.new.self.seat.events in
+    let seen = last c.args.reader.now.seat.events in
+    let why : IsViewStop events seen c.args.reader.now.at c.in_err-rows.field-0.0 =
+    c.in_err-rows.ensures.err events seen c.args.reader.now.at c.scan-answered.ensures.may
     (c.scan-answered.ensures.lossless c.requires.lossless) in
     search rules

@@ -3,11 +3,14 @@ use Rattle.tx_types.specs.declared.key.Key.{Key}
 use Rattle.tx_types.specs.declared.mutation.KeyValue.{KeyValue}
 use Rattle.tx_types.specs.Keys.{is_scanned, key_le, key_lt}
 use Rattle.tx_plan.proofs.KeyOrder.{ge_false, ge_true, lt_le}
+use Rattle.tx_core.specs.Histories.{last}
 use Rattle.tx_laws.specs.Rows.{AreRowsOf}
 use Rattle.tx_reader.proofs.Observers.{sees_begins, sees_itself, sees_more}
 use Rattle.tx_simple.specs.Reads.{SeesOn}
 use Rattle.tx_simple.proofs.Pages.{AreSoFar, all_so_far, later_so_far, more_so_far, none_so_far}
 use Rattle.tx_simple.proofs.Ranges.{sees_later}
+use Rattle.tx_kv.specs.Views.{IsViewStop}
+use Rattle.tx_kv.proofs.Views.{stops_less}
 use Rattle.tx_kv.proofs.ranges.pages.Goals as goal
 
 pub returns-in_err-next-clause-seat : goal.returns-in_err-next-clause-seat
@@ -34,6 +37,17 @@ returns-then-ge-clause-finds g c =
 pub returns-in_err-part-clause-seat : goal.returns-in_err-part-clause-seat
 returns-in_err-part-clause-seat g c =
     sees_more c.args.reader.now.seat c.loop.reader.seat c.page.new.reader.seat c.loop.invariant.1 c.page.ensures.seat
+
+pub returns-in_err-part-clause-err : goal.returns-in_err-part-clause-err
+returns-in_err-part-clause-err g c =
+    let events = c.page.new.reader.seat.events in
+    let seen = last c.args.reader.now.seat.events in
+    let at = c.args.reader.now.at in
+    let why : IsViewStop events seen at c.in_err-part.field-0.0 =
+    subst (λ (n : ℕ). IsViewStop events seen n c.in_err-part.field-0.0) c.loop.invariant.0
+    (stops_less events seen (last c.loop.reader.seat.events) c.loop.reader.at c.loop.invariant.1.drawn
+    c.in_err-part.field-0.0 c.in_err-part.ensures.err) in
+    search rules
 
 pub returns-in_err-add_rows-clause-seat : goal.returns-in_err-add_rows-clause-seat
 returns-in_err-add_rows-clause-seat g c =

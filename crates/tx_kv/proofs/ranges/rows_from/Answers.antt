@@ -2,13 +2,14 @@ use Rattle.std.proofs.Common.{◌≡◌, ◌++◌, ℕ, List, None, Some, IfOk, 
 use Rattle.tx_types.specs.declared.mutation.KeyValue.{KeyValue}
 use Rattle.tx_types.specs.Keys.{key_le}
 use Rattle.tx_plan.proofs.KeyOrder.{not_lt}
-use Rattle.tx_reader.specs.Readers.{IsKeyAnswer, ReadsAt}
+use Rattle.tx_core.specs.Histories.{last}
+use Rattle.tx_reader.specs.Readers.{IsKeyAnswer, ReadsOn}
 use Rattle.tx_reader.proofs.Observers.{sees_begins, sees_itself, sees_more}
 use Rattle.tx_simple.specs.Ranges.{greatest, row_of}
 use Rattle.tx_simple.specs.Reads.{SeesOn}
 use Rattle.tx_simple.proofs.Ranges.{range_above, range_with_top}
 use Rattle.tx_kv.specs.Views.{IsViewStop, SeesRange}
-use Rattle.tx_kv.proofs.Views.{SeenAt, seen_now}
+use Rattle.tx_kv.proofs.Views.{SeenAt, seen_now, stops_less}
 use Rattle.tx_kv.proofs.ranges.rows_from.Goals as goal
 
 pub returns-in_err-top-clause-seat : goal.returns-in_err-top-clause-seat
@@ -29,10 +30,17 @@ returns-in_err-found-clause-seat g c =
 
 pub returns-in_err-found-clause-err : goal.returns-in_err-found-clause-err
 returns-in_err-found-clause-err g c =
-    let may = subst (λ (n : ℕ). IfOk c.get-answered.result (IsKeyAnswer n)) c.pages.ensures.at
+    let events = c.get-answered.new.self.seat.events in
+    let seen = last c.args.reader.now.seat.events in
+    let mid = last c.pages.new.reader.seat.events in
+    let at = c.args.reader.now.at in
+    let top = c.in_ok-top.top in
+    let may = subst (λ (n : ℕ). IfOk c.get-answered.result (IsKeyAnswer events mid n top)) c.pages.ensures.at
     c.get-answered.ensures.may in
-    let why : IsViewStop c.args.reader.now.at c.in_err-found.field-0.0 =
-    c.in_err-found.ensures.err c.args.reader.now.at may (c.get-answered.ensures.lossless c.requires.lossless) in
+    let both = c.in_err-found.ensures.err events mid at top may
+    (c.get-answered.ensures.lossless c.requires.lossless) in
+    let why : IsViewStop events seen at c.in_err-found.field-0.0 =
+    stops_less events seen mid at c.pages.ensures.seat.drawn c.in_err-found.field-0.0 both.0 in
     search rules
 
 pub returns-in_err-add_last-clause-seat : goal.returns-in_err-add_last-clause-seat
@@ -50,7 +58,7 @@ returns g c =
     let upto : IsTrue (key_le c.args.from.now top) = not_lt top c.args.from.now (sym c.lt.ensures ∙ c.if-lt.false) in
     let is : top ≡ greatest = search rules in
     let all : c.add_last.new.rows.items ≡ c.in_ok-rows.rows.items ++ row_of top c.in_ok-found.found = search rules in
-    let reads = subst (λ (n : ℕ). IfOk c.get-answered.result (ReadsAt new.events n top)) c.pages.ensures.at
+    let reads = subst (λ (n : ℕ). IfOk c.get-answered.result (ReadsOn bounds new.events n top)) c.pages.ensures.at
     c.get-answered.ensures.finds in
     record {
       at = c.get-answered.ensures.at ∙ c.pages.ensures.at;
@@ -60,6 +68,7 @@ returns g c =
           (range_with_top bounds new.events at (SeenAt new.events at) (seen_now bounds new.events c.know_run.ensures at)
           mid.events (sees_begins mid new c.get-answered.ensures.seat) c.args.from.now top is
           c.in_ok-rows.rows.items c.in_ok-rows.ensures.finds upto c.in_ok-found.found
-          (c.in_ok-found.ensures.finds new.events at top reads));
+          (seen_now bounds new.events c.know_run.ensures at top c.in_ok-found.found
+          (c.in_ok-found.ensures.finds bounds new.events at top reads)));
       err = tt;
     }

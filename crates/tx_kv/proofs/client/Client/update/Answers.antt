@@ -1,5 +1,3 @@
-use Rattle.std.proofs.Common.{◌≡◌, refl, sym, subst, rules}
-use Rattle.tx_kv.specs.Clients.{ClientState, Updates}
 use Rattle.tx_kv.proofs.UpdateResults.{only_sees_goes, updates_at}
 use Rattle.tx_kv.proofs.client.Client.update.Goals as goal
 
