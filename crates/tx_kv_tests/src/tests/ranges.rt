@@ -10,12 +10,12 @@ use tx_kv::{
 const ROWS: u16 = 600;
 
 // The key of a number, in the order of the numbers.
-fn key_of<T: Tx>(tx: &T, n: u16) -> Result<Key, Stop> {
+pub(super) fn key_of<T: Tx>(tx: &T, n: u16) -> Result<Key, Stop> {
     let [high, low] = n.to_be_bytes();
     Ok(Key::new(tx.alloc(), &[b'k', high, low])?)
 }
 
-fn put<T: Tx>(tx: &mut T, n: u16) -> Result<(), Stop> {
+pub(super) fn put<T: Tx>(tx: &mut T, n: u16) -> Result<(), Stop> {
     let key = key_of(tx, n)?;
     let value = Value::new(tx.alloc(), b"x")?;
     tx.put(key, value)
@@ -23,7 +23,7 @@ fn put<T: Tx>(tx: &mut T, n: u16) -> Result<(), Stop> {
 
 /// Puts the rows of so many numbers from this on.
 #[derive(Drop)]
-struct Fill(u16);
+pub(super) struct Fill(pub(super) u16);
 
 impl Work for Fill {
     type Out = ();
