@@ -1,6 +1,6 @@
 -- Of which transactions a no tells: of those on its cycle, on one of the rounds that refute it, or
 -- of the one that read what it names. Of a cycle of which no edge is by a read it also tells of
--- those that read in the key of its first edge of writes what that edge's second transaction put
+-- those that read in the key of its first edge of writes what one of that edge's transactions put
 -- there: that is why the order of its writes is known.
 use Rattle.std.specs.Prelude.{ℕ, ◌+◌, ◌==◌, Bool, true, false, ◌&&◌, ◌||◌, cond, List, [], ◌∷◌, length, nat_le, Option, Some, None}
 use Rattle.std.specs.List.{find, list_any}
@@ -52,19 +52,19 @@ read_by r (Read span) = cond (nat_le (span.first + span.count) (length r.element
 abbrev pub sees_in : Recording → ℕ → List Op → Op → Bool
 sees_in r k os o = (o.key == k) && sees_one os (read_by r o.act)
 
--- t read in the key of an edge what its second transaction put there
-abbrev pub sees_second : Recording → ℕ → Option ℕ → ℕ → Bool
-sees_second r u None t = false
-sees_second r u (Some k) t = list_any (sees_in r k (ops_of r u)) (ops_of r t)
+-- t read in the key, if there is one, what u put there
+abbrev pub sees_put : Recording → ℕ → Option ℕ → ℕ → Bool
+sees_put r u None t = false
+sees_put r u (Some k) t = list_any (sees_in r k (ops_of r u)) (ops_of r t)
 
 -- the first of the edges that has a key
 abbrev pub first_keyed : List CycleStep → Option CycleStep
 first_keyed steps = find (λ s. is_some s.key) steps
 
--- the same of an edge, where there is one
-abbrev pub sees_first : Recording → Option CycleStep → ℕ → Bool
-sees_first r None t = false
-sees_first r (Some s) t = sees_second r s.to s.key t
+-- t read in the key of an edge, where there is one, what one of its transactions put there
+abbrev pub sees_one_of : Recording → Option CycleStep → ℕ → Bool
+sees_one_of r None t = false
+sees_one_of r (Some s) t = sees_put r s.to s.key t || sees_put r s.from s.key t
 
 -- t is on the cycle
 abbrev pub is_on : List CycleStep → ℕ → Bool
@@ -89,7 +89,7 @@ is_dirty G0 = true
 is_dirty _ = false
 
 abbrev pub is_named : Recording → Cycle → ℕ → Bool
-is_named r c t = is_on c.steps.items t || (is_dirty c.anomaly && sees_first r (first_keyed c.steps.items) t)
+is_named r c t = is_on c.steps.items t || (is_dirty c.anomaly && sees_one_of r (first_keyed c.steps.items) t)
 
 -- what is told is told of t
 abbrev pub is_of : Recording → Verdict → ℕ → Bool
