@@ -8,8 +8,8 @@
 //! `txkv simulate --check` does), `numbered.rows` (the same, with the number of its line beside
 //! each step), `traces.rows`, `histories.rows` (judged as `txkv import` does, and the trace of each
 //! yes is checked), `ordered.rows` (the same with `--sessions --strict`) and `all.rows` (with
-//! `--all`), each with what it writes. The picture of a history (`NAME.history`, drawn as `txkv
-//! import --svg` does) is shown as `NAME.history.svg`.
+//! `--all` as well), each with what it writes. The picture of a history (`NAME.history`, drawn as
+//! `txkv import --svg` does) is shown as `NAME.history.svg`.
 #![tactic(auto)]
 
 mod rows;
@@ -112,7 +112,7 @@ enum Kind {
     Ordered,
     /// The same, and the trace of a yes is checked.
     TracedOrdered,
-    /// A history that is judged to its end.
+    /// A history that keeps both orders and is judged to its end.
     AllOfHistory,
     /// A history whose answer is a picture.
     DrawnHistory,
@@ -177,6 +177,7 @@ const ORDERED: ImportOptions = ImportOptions {
 };
 
 const TO_THE_END: ImportOptions = ImportOptions {
+    orders: BOTH_ORDERS,
     all: true,
     ..ONE_LINE
 };

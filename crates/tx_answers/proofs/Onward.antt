@@ -2,7 +2,7 @@
 use Rattle.std.proofs.Common.{◌≡◌, ℕ, Bool, true, false, List, [], ◌∷◌, ◌++◌, length, get_or, refl, sym, ap, subst, ◌∙◌}
 use Rattle.std.specs.Prelude.{IsTrue, cond, ◌||◌}
 use Rattle.tx_recording.specs.declared.recording.Recording.{Recording}
-use Rattle.tx_recording.specs.Recordings.{txns_of, transaction_at}
+use Rattle.tx_recording.specs.Recordings.{txns_of, ops_of}
 use Rattle.tx_verdict.specs.declared.verdict.Verdict.{Verdict}
 use Rattle.tx_verdict.specs.Verdicts.{IsVerdict}
 use Rattle.tx_import.specs.declared.reader.History.{History}
@@ -33,10 +33,9 @@ SoFar options h told text end is_first = (vs : List Verdict) × IsSoFar options 
 -- what is left is what those before it have left
 pub left_by : (r left : Recording) (f g : ℕ → Bool) → ((t : ℕ) → f t ≡ g t) → IsLeft r f left → IsLeft r g left
 left_by r left f g same l = record {
-  transactions = λ t h. subst (λ b. transaction_at left t ≡ without b (transaction_at r t)) (same t)
-      (l.transactions t h);
+  transactions = l.transactions;
+  ops = λ t h. subst (λ b. ops_of left t ≡ without b (ops_of r t)) (same t) (l.ops t h);
   count = l.count;
-  ops = l.ops;
   elements = l.elements;
   keys = l.keys;
   values = l.values;

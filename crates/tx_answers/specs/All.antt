@@ -12,7 +12,7 @@ use Rattle.tx_answers.specs.declared.answer.ImportOptions.{ImportOptions}
 use Rattle.tx_answers.specs.declared.answer.ImportEnd.{ImportEnd}
 use Rattle.tx_answers.specs.Texts.{end_of, IsTextOf}
 
--- a verdict on what is left when what these tell of is taken out
+-- a verdict on what is left when the reads of those are taken out that these tell of
 abbrev pub IsNext : Recording → Orders → List Verdict → Verdict → Type 0
 IsNext r orders vs v = (left : Recording) × IsLeft r (told_by r vs) left × IsVerdict left orders v
 

@@ -1,6 +1,8 @@
-//! Judging a history to its end: what a no tells of is taken out, and what is left is judged again.
+//! Judging a history to its end: of those that a no tells of the reads are taken out, and what is
+//! left is judged again.
 ghost use Rattle.std.specs.Prelude.{◌≡◌, ◌<◌, ◌++◌, ◌||◌, [], cond, true, false, length, slice_index_or, IfOk, OnOk, List, ℕ};
 ghost use Rattle.tx_recording.specs.Recordings.{IsRecording, txns_of};
+ghost use Rattle.tx_import.specs.Numbers.{AreInTurn};
 ghost use Rattle.tx_onward.specs.Tells.{tells};
 ghost use Rattle.tx_onward.specs.Untold.{untold};
 ghost use Rattle.tx_answers.specs.Texts.{end_of as end_of_verdict};
@@ -124,7 +126,8 @@ pub(crate) fn judged_to_end(
     options: ImportOptions,
     history: &History,
 ) -> Result<Answer, Broken>
-    requires { IsRecording history.now.recording }
+    requires recording { IsRecording history.now.recording }
+    requires in_turn { AreInTurn history.now.recording.transactions.items }
     ensures { IfOk result (λ answer. IsAllOf options history.now answer.text.items answer.end) }
 {
     let mut told = nobody(alloc, &history.recording)?;

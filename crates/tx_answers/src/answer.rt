@@ -6,6 +6,7 @@ ghost use Rattle.tx_text.specs.Lines.{lines_of};
 ghost use Rattle.tx_text.specs.Members.{reply_text};
 ghost use Rattle.tx_text.specs.Output.{AppendsPart};
 ghost use Rattle.tx_recording.specs.Recordings.{IsRecording};
+ghost use Rattle.tx_import.specs.Numbers.{AreInTurn};
 ghost use Rattle.tx_import.specs.Recorders.{IsTimely};
 ghost use Rattle.tx_answers.specs.Words.{verdict_text};
 ghost use Rattle.tx_answers.specs.Traces.{IsTrace};
@@ -176,7 +177,8 @@ fn judged_once(alloc: Global, options: ImportOptions, history: &History) -> Resu
 
 // What is said of a history that was read.
 fn judged(alloc: Global, options: ImportOptions, history: &History) -> Result<Answer, Broken>
-    requires { IsRecording history.now.recording }
+    requires recording { IsRecording history.now.recording }
+    requires in_turn { AreInTurn history.now.recording.transactions.items }
     ensures { IfOk result (λ answer. IsSaid options history.now answer.text.items answer.end) }
 {
     if options.all {
@@ -202,6 +204,7 @@ fn faulted(alloc: Global, fault: LineFault) -> Result<Answer, Broken>
 // What is said of a history of which nothing wrong was found.
 fn heard_bare(alloc: Global, options: ImportOptions, history: History) -> Result<Answer, Broken>
     requires recording { IsRecording history.recording }
+    requires in_turn { AreInTurn history.recording.transactions.items }
     requires timely { IsTimely history.recording }
     ensures { IfOk result (λ answer. IsHeard options history answer.text.items answer.end) }
 {
@@ -212,7 +215,8 @@ fn heard_bare(alloc: Global, options: ImportOptions, history: History) -> Result
 
 // What is said of a history, unless its recorder got something wrong.
 fn heard(alloc: Global, options: ImportOptions, history: History) -> Result<Answer, Broken>
-    requires { IsRecording history.recording }
+    requires recording { IsRecording history.recording }
+    requires in_turn { AreInTurn history.recording.transactions.items }
     ensures { IfOk result (λ answer. IsHeard options history answer.text.items answer.end) }
 {
     match find_misrecorded(alloc, &history.recording)? {

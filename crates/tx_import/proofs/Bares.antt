@@ -10,6 +10,7 @@ use Rattle.tx_recording.specs.declared.recording.Op.{Op}
 use Rattle.tx_recording.specs.declared.recording.Transaction.{Transaction}
 use Rattle.tx_recording.specs.declared.recording.Recording.{Recording}
 use Rattle.tx_recording.specs.Recordings.{IsRecording, IsTransactionOf, IsActOf, IsOpOf, txns_of, transaction_at, no_transaction}
+use Rattle.tx_import.specs.Numbers.{AreInTurn}
 use Rattle.tx_import.specs.Recorders.{AreMarked, AreBare, IsBare, IsUnread, emptied}
 
 -- what holds below a number and of it holds below the next
@@ -95,3 +96,31 @@ bare_recording r b is bare = record {
   elements = subst (λ q. All (λ v. v < q) b.elements.items) (sym bare.values)
       (subst (λ (q : Vec ℕ Global). All (λ v. v < r.values) q.items) (sym bare.elements) is.elements);
 }
+
+-- it begins where it began, and ends no later
+at_most : (r : Recording) (t : Transaction) (n : ℕ) → IsRecording r → n < txns_of r
+    → ((t ≡ transaction_at r n) ⊎ (IsUnread r n × (t ≡ emptied (transaction_at r n))))
+    → (t.first ≡ (transaction_at r n).first) × (t.upto ≤ (transaction_at r n).upto)
+at_most r t n is lt (inl same) =
+    let upto = ap (λ (q : Transaction). q.upto) same in
+    (ap (λ (q : Transaction). q.first) same, omega (arith, upto))
+at_most r t n is lt (inr (unread, same)) =
+    let old = is.transactions n no_transaction lt in
+    let upto = ap (λ (q : Transaction). q.upto) same in
+    (ap (λ (q : Transaction). q.first) same, omega (arith, upto, old.0))
+
+-- the operations of each still stand behind those of the ones before it
+pub bare_in_turn : (r b : Recording) → IsRecording r → IsBare r b → AreInTurn r.transactions.items
+    → AreInTurn b.transactions.items
+bare_in_turn r b is bare in_turn i j d lt within =
+    let ts = b.transactions.items in
+    let there : j < txns_of r = subst (λ q. j < q) bare.transactions.0 within in
+    let before : i < txns_of r = omega (arith, lt, there) in
+    let early : i < length ts = omega (arith, lt, within) in
+    let one = at_most r (get_or ts i no_transaction) i is before (bare.transactions.1 i before) in
+    let other = at_most r (get_or ts j no_transaction) j is there (bare.transactions.1 j there) in
+    let apart : (transaction_at r i).upto ≤ (transaction_at r j).first = in_turn i j no_transaction lt there in
+    let P : Transaction → Transaction → Type 0 = λ t u. t.upto ≤ u.first in
+    subst (λ t. P t (get_or ts j d)) (get_or_default ts i no_transaction d early)
+    (subst (λ u. P (get_or ts i no_transaction) u) (get_or_default ts j no_transaction d within)
+    (omega (arith, one.1, other.0, apart)))

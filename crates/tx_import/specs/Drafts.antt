@@ -12,7 +12,7 @@ use Rattle.tx_import.specs.declared.said.SaidOp.{SaidOp}
 use Rattle.tx_import.specs.declared.said.SaidTransaction.{SaidTransaction}
 use Rattle.tx_import.specs.declared.draft.Tables.{Tables}
 use Rattle.tx_import.specs.declared.draft.Draft.{Draft}
-use Rattle.tx_import.specs.Numbers.{Grows, AreOpsSaid, IsTransactionSaid}
+use Rattle.tx_import.specs.Numbers.{Grows, AreInTurn, AreOpsSaid, IsTransactionSaid}
 
 -- how many values were read
 abbrev pub width : SaidAct → ℕ
@@ -59,11 +59,13 @@ pub record FitsOps (d : Draft) : Type 0 where
   pub ops : All (IsOpIn (length d.tables.keys) (length d.tables.values) (length d.elements.items)) d.ops.items
   pub elements : All (λ v. v < length d.tables.values) d.elements.items
 
--- nor more processes than transactions, and the operations of each transaction are there
+-- nor more processes than transactions, and the operations of each transaction are there, behind
+-- those of the transactions before it
 pub record FitsDraft (d : Draft) : Type 0 where
   pub fits : FitsOps d
   pub processes : length d.tables.processes ≤ length d.transactions.items
   pub ranges : All (IsTransactionOf (length d.ops.items)) d.transactions.items
+  pub in_turn : AreInTurn d.transactions.items
 
 -- operations were added that are what was said of them
 abbrev pub AddsOps : Draft → Draft → List SaidOp → Type 0

@@ -21,6 +21,10 @@ Grows {A} old new = (more : List A) × (new ≡ old ++ more)
 abbrev pub AreApart : {A : Type 0} → List A → Type 0
 AreApart xs = AllPairs (λ x y. x ≢ y) xs
 
+-- the operations of each transaction stand behind those of the transactions before it
+abbrev pub AreInTurn : List Transaction → Type 0
+AreInTurn ts = AllPairs (λ t u. t.upto ≤ u.first) ts
+
 -- the name that has this number
 abbrev pub IsNameOf : List Name → ℕ → Name → Type 0
 IsNameOf names n name = slice_get names n ≡ Some name

@@ -2,6 +2,7 @@
 ghost use Rattle.std.specs.Prelude.{◌≡◌, ◌⊎◌, ℕ, ◌<◌, length, Contains, IfOk, IsTrue, slice_index_or, true, false};
 ghost use Rattle.tx_recording.specs.Explanations.{Puts};
 ghost use Rattle.tx_recording.specs.Recordings.{IsRecording, txns_of, transaction_at};
+ghost use Rattle.tx_import.specs.Numbers.{AreInTurn};
 ghost use Rattle.tx_import.specs.Recorders.{IsUnread, IsBareOf, AreBare, AreMarked, emptied};
 
 use crate::reader::History;
@@ -133,6 +134,8 @@ pub fn bare_of(alloc: Global, history: History) -> Result<History, AllocError>
     requires { IsRecording history.recording }
     ensures recording { IfOk result (λ bare. IsRecording bare.recording) }
     ensures bare { IfOk result (λ bare. IsBareOf history bare) }
+    ensures in_turn { IfOk result (λ bare. AreInTurn history.recording.transactions.items
+        → AreInTurn bare.recording.transactions.items) }
 {
     if !is_put_twice(alloc, &history.recording)? {
         return Ok(history);

@@ -6,6 +6,7 @@ ghost use Rattle.tx_recording.specs.Recordings.{IsRecording};
 ghost use Rattle.tx_import.specs.Said.{transaction_of};
 ghost use Rattle.tx_import.specs.declared.said.SaidTransaction.{SaidTransaction};
 ghost use Rattle.tx_import.specs.Histories.{said_in, or_form, IsHistory, IsHistoryOf, IsFaultOf};
+ghost use Rattle.tx_import.specs.Numbers.{AreInTurn};
 ghost use Rattle.tx_import.specs.Turns.{HistoryTurns};
 ghost use Rattle.tx_import.specs.Drafts.{FitsDraft, IsDraftOf};
 
@@ -116,6 +117,7 @@ fn history_of(draft: Draft) -> History
     requires fits { FitsDraft draft }
     requires few { length draft.transactions.items < 2 ^ 30 }
     ensures recording { IsRecording result.recording }
+    ensures in_turn { AreInTurn result.recording.transactions.items }
     ensures history { (said : List SaidTransaction) → IsDraftOf draft said → IsHistory result said }
 {
     let Draft {
@@ -149,6 +151,7 @@ pub fn read_history<R: BufRead>(
 ) -> Result<Result<History, LineFault>, Broken>
     // At any reader.
     ensures recording { IfOk result (λ found. IfOk found (λ history. IsRecording history.recording)) }
+    ensures in_turn { IfOk result (λ found. IfOk found (λ history. AreInTurn history.recording.transactions.items)) }
     // Where the bytes are known.
     ensures read { IfOk result (λ found. IfSome (R.remaining reader.old) (λ input. MatchResult found
         (λ history. IsHistoryOf (lines_of input) history) (λ fault. IsFaultOf (lines_of input) fault))) }

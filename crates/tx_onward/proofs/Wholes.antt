@@ -1,73 +1,161 @@
 -- What explains the whole explains what is left.
-use Rattle.std.proofs.Common.{◌≡◌, ◌⊎◌, ℕ, ◌<◌, ◌≤◌, Bool, true, false, List, ◌++◌, inl, inr, refl, sym, ap, ◌∙◌, subst, take, Some, IsTrue, slice_range}
-use Rattle.std.specs.Prelude.{cond, ◌+◌, slice_index_or}
-use Rattle.std.proofs.lemmas.Bool.{cases_lt}
+use Rattle.std.proofs.Common.{◌≡◌, ℕ, zero, suc, ◌+◌, ◌<◌, ◌≤◌, Bool, true, false, List, [], ◌∷◌, ◌++◌, inl, inr, refl, sym, ap, ◌∙◌, subst, take, slice_range, Contains, length, arith}
+use Rattle.std.specs.Prelude.{cond, slice_index_or, ◌==◌}
+use Rattle.std.specs.List.{filter}
+use Rattle.std.proofs.lemmas.Bool.{cases_lt, false≢true}
 use Rattle.std.proofs.lemmas.List.{get_or_past}
-use Rattle.tx_recording.specs.declared.recording.Outcome.{Outcome}
-use Rattle.tx_recording.specs.declared.recording.Outcome.TheVariants.{Ok, Fail, Info}
+use Rattle.std.proofs.lemmas.List.Elements.{All-contains, All-contains_itself, All-filter, All-get_or, filter_passes}
+use Rattle.tx_recording.specs.declared.recording.Outcome.TheVariants.{Ok}
 use Rattle.tx_recording.specs.declared.recording.Op.{Op}
-use Rattle.tx_recording.specs.declared.recording.Act.TheVariants.{Read}
+use Rattle.tx_recording.specs.declared.recording.Act.{Act}
+use Rattle.tx_recording.specs.declared.recording.Act.TheVariants.{Append, Write, Read}
+use Rattle.tx_recording.specs.declared.recording.Span.{Span}
 use Rattle.tx_recording.specs.declared.recording.Transaction.{Transaction}
 use Rattle.tx_recording.specs.declared.recording.Orders.{Orders}
 use Rattle.tx_recording.specs.declared.recording.Recording.{Recording}
 use Rattle.tx_recording.specs.Recordings.{txns_of, transaction_at, ops_of, list_of, no_transaction, no_op}
-use Rattle.tx_recording.specs.Explanations.{after, PutsIn, IsPut, Explanation, Explains, IsWriter, IsNewest, Sees, op_at, IsSession, IsEarlier, Precedes}
-use Rattle.tx_onward.specs.Left.{without, IsLeft}
+use Rattle.tx_recording.specs.Explanations.{act_on, after, Puts, PutsIn, IsPut, Explanation, Explains, IsWriter, Sees, op_at, IsSession, IsEarlier, Precedes}
+use Rattle.tx_onward.specs.Left.{is_put, without, moved, IsLeft}
 
-info_ok : Info ≡ Ok → ⊥
-info_ok e = (cc)
+-- ---- operations without reads
 
-info_fail : Info ≡ Fail → ⊥
-info_fail e = (cc)
+abbrev puts_of : List Op → List Op
+puts_of os = filter (λ o. is_put o.act) os
 
-ok_of : (b : Bool) (o : Outcome) → cond b Info o ≡ Ok → o ≡ Ok
-ok_of true o e = absurd (info_ok e)
-ok_of false o e = e
+-- what puts a value is kept
+put_kept : (a : Act) (v : ℕ) → Puts a v → is_put a ≡ true
+put_kept (Append w) v h = refl
+put_kept (Write w) v h = refl
+put_kept (Read span) v h = absurd h
 
-fail_of : (b : Bool) (o : Outcome) → cond b Info o ≡ Fail → o ≡ Fail
-fail_of true o e = absurd (info_fail e)
-fail_of false o e = e
+-- what is kept was there
+kept_there : (os : List Op) (o : Op) → Contains (puts_of os) o → Contains os o
+kept_there os o h = All-contains (Contains os) (puts_of os) o
+    (All-filter (λ (q : Op). is_put q.act) (Contains os) os (All-contains_itself os)) h
+
+-- what puts and was there is kept
+there_kept : (os : List Op) (o : Op) → is_put o.act ≡ true → Contains os o → Contains (puts_of os) o
+there_kept [] o puts h = h
+there_kept (x ∷ os) o puts (zero, lt, is) =
+    let first : is_put x.act ≡ true = ap (λ (q : Op). is_put q.act) is ∙ puts in
+    subst (λ b. Contains (cond b (x ∷ puts_of os) (puts_of os)) o) (sym first) (zero, omega arith, is)
+there_kept (x ∷ os) o puts (suc k, lt, is) = one (is_put x.act) (there_kept os o puts (k, omega (arith, lt), is))
+  where
+    one : (b : Bool) → Contains (puts_of os) o → Contains (cond b (x ∷ puts_of os) (puts_of os)) o
+    one true (j, within, found) = (suc j, omega (arith, within), found)
+    one false there = there
+
+same_cond : (b : Bool) (xs : List ℕ) → cond b xs xs ≡ xs
+same_cond true xs = refl
+same_cond false xs = refl
+
+-- one more
+after_one : (os kept : List Op) (n : ℕ) (a : Act) (k : ℕ) (xs : List ℕ)
+    → ((ys : List ℕ) → after kept k ys ≡ after os k ys)
+    → after (cond (is_put a) (record { key = n; act = a } ∷ kept) kept) k xs
+    ≡ after os k (cond (n == k) (act_on a xs) xs)
+after_one os kept n (Append v) k xs rest = rest (cond (n == k) (xs ++ v ∷ []) xs)
+after_one os kept n (Write v) k xs rest = rest (cond (n == k) (v ∷ []) xs)
+after_one os kept n (Read span) k xs rest = rest xs ∙ ap (after os k) (sym (same_cond (n == k) xs))
+
+-- they leave the same
+puts_after : (os : List Op) (k : ℕ) (xs : List ℕ) → after (puts_of os) k xs ≡ after os k xs
+puts_after [] k xs = refl
+puts_after (o ∷ os) k xs = after_one os (puts_of os) o.key o.act k xs (puts_after os k)
+
+-- none of them is a read
+no_read : (os : List Op) (p : ℕ) (span : Span) → (slice_index_or (puts_of os) p no_op).act ≡ Read span → ⊥
+no_read os p span e = elim (cases_lt p (length (puts_of os))) [
+  | inl lt ↦ false≢true (sym (ap is_put e)
+      ∙ All-get_or (λ (q : Op). is_put q.act ≡ true) (puts_of os) p no_op lt
+      (filter_passes (λ (q : Op). is_put q.act) os))
+  | inr le ↦ append_read (sym (ap (λ (q : Op). q.act) (get_or_past (puts_of os) p no_op le)) ∙ e)
+]
+  where
+    append_read : Append 0 ≡ Read span → ⊥
+    append_read same = (cc)
+
+-- ---- with the reads where a transaction was not told of
+
+without_after : (b : Bool) (os : List Op) (k : ℕ) (xs : List ℕ) → after (without b os) k xs ≡ after os k xs
+without_after true os k xs = puts_after os k xs
+without_after false os k xs = refl
+
+without_put : (b : Bool) (os : List Op) (k v : ℕ) → PutsIn (without b os) k v → PutsIn os k v
+without_put true os k v (o, there, key, puts) = (o, kept_there os o there, key, puts)
+without_put false os k v h = h
+
+put_without : (b : Bool) (os : List Op) (k v : ℕ) → PutsIn os k v → PutsIn (without b os) k v
+put_without true os k v (o, there, key, puts) = (o, there_kept os o (put_kept o.act v puts) there, key, puts)
+put_without false os k v h = h
+
+-- where there is a read, all are there
+all_there : (b : Bool) (os : List Op) (p : ℕ) (span : Span)
+    → (slice_index_or (without b os) p no_op).act ≡ Read span → without b os ≡ os
+all_there true os p span e = absurd (no_read os p span e)
+all_there false os p span e = refl
 
 module _ (r left : Recording) (told : ℕ → Bool) (l : IsLeft r told left) where
   -- what is the same of a transaction, also past the last
   same : {A : Type 0} (f : Transaction → A)
-      → ((b : Bool) (t : Transaction) → f (without b t) ≡ f t) → (t : ℕ)
+      → ((t : Transaction) (first upto : ℕ) → f (moved t first upto) ≡ f t) → (t : ℕ)
       → f (transaction_at left t) ≡ f (transaction_at r t)
   same f kept t = elim (cases_lt t (txns_of r)) [
-    | inl lt ↦ ap f (l.transactions t lt) ∙ kept (told t) (transaction_at r t)
+    | inl lt ↦ ap f (l.transactions t lt)
+        ∙ kept (transaction_at r t) (transaction_at left t).first (transaction_at left t).upto
     | inr le ↦ ap f (get_or_past left.transactions.items t no_transaction (subst (λ n. n ≤ t) (sym l.count) le))
         ∙ sym (ap f (get_or_past r.transactions.items t no_transaction le))
   ]
 
-  is_ok : (t : ℕ) → (transaction_at left t).outcome ≡ Ok → (transaction_at r t).outcome ≡ Ok
-  is_ok t e = elim (cases_lt t (txns_of r)) [
-    | inl lt ↦ ok_of (told t) (transaction_at r t).outcome
-        (sym (ap (λ (q : Transaction). q.outcome) (l.transactions t lt)) ∙ e)
-    | inr le ↦ ap (λ (q : Transaction). q.outcome) (get_or_past r.transactions.items t no_transaction le)
-        ∙ sym (ap (λ (q : Transaction). q.outcome)
-        (get_or_past left.transactions.items t no_transaction (subst (λ n. n ≤ t) (sym l.count) le))) ∙ e
-  ]
+  same_outcome : (t : ℕ) → (transaction_at left t).outcome ≡ (transaction_at r t).outcome
+  same_outcome t = same (λ q. q.outcome) (λ q first upto. refl) t
 
-  is_fail : (t : ℕ) → (transaction_at left t).outcome ≡ Fail → (transaction_at r t).outcome ≡ Fail
-  is_fail t e = elim (cases_lt t (txns_of r)) [
-    | inl lt ↦ fail_of (told t) (transaction_at r t).outcome
-        (sym (ap (λ (q : Transaction). q.outcome) (l.transactions t lt)) ∙ e)
-    | inr le ↦ ap (λ (q : Transaction). q.outcome) (get_or_past r.transactions.items t no_transaction le)
-        ∙ sym (ap (λ (q : Transaction). q.outcome)
-        (get_or_past left.transactions.items t no_transaction (subst (λ n. n ≤ t) (sym l.count) le))) ∙ e
-  ]
+  nothing : (b : Bool) → [] ≡ without b []
+  nothing true = refl
+  nothing false = refl
 
-  ops_same : (t : ℕ) → ops_of left t ≡ ops_of r t
-  ops_same t =
-      ap (λ os. slice_range os (transaction_at left t).first (transaction_at left t).upto) l.ops
-      ∙ ap (λ n. slice_range r.ops.items n (transaction_at left t).upto) (same (λ q. q.first) (λ b q. refl) t)
-      ∙ ap (λ n. slice_range r.ops.items (transaction_at r t).first n) (same (λ q. q.upto) (λ b q. refl) t)
+  -- its operations, also past the last
+  kept : (t : ℕ) → ops_of left t ≡ without (told t) (ops_of r t)
+  kept t = elim (cases_lt t (txns_of r)) [
+    | inl lt ↦ l.ops t lt
+    | inr le ↦
+        ap (λ (q : Transaction). slice_range left.ops.items q.first q.upto)
+        (get_or_past left.transactions.items t no_transaction (subst (λ n. n ≤ t) (sym l.count) le))
+        ∙ nothing (told t)
+        ∙ ap (λ (q : Transaction). without (told t) (slice_range r.ops.items q.first q.upto))
+        (sym (get_or_past r.transactions.items t no_transaction le))
+  ]
 
   put : (t k v : ℕ) → IsPut left t k v → IsPut r t k v
-  put t k v is = subst (λ (os : List Op). PutsIn os k v) (ops_same t) is
+  put t k v is = without_put (told t) (ops_of r t) k v (subst (λ (os : List Op). PutsIn os k v) (kept t) is)
 
   put_back : (t k v : ℕ) → IsPut r t k v → IsPut left t k v
-  put_back t k v is = subst (λ (os : List Op). PutsIn os k v) (sym (ops_same t)) is
+  put_back t k v is =
+      subst (λ (os : List Op). PutsIn os k v) (sym (kept t)) (put_without (told t) (ops_of r t) k v is)
+
+  session : (t u : ℕ) → IsSession left t u → IsSession r t u
+  session t u (p, lt, within, one, other, ok) = (
+    p,
+    lt,
+    subst (λ n. u < n) l.count within,
+    sym (same (λ q. q.process) (λ q first upto. refl) t) ∙ one,
+    sym (same (λ q. q.process) (λ q first upto. refl) u) ∙ other,
+    sym (same_outcome t) ∙ ok,
+  )
+
+  earlier : (t u : ℕ) → IsEarlier left t u → IsEarlier r t u
+  earlier t u (e, b, lt, ended, began, ok) = (
+    e,
+    b,
+    lt,
+    sym (same (λ q. q.ended) (λ q first upto. refl) t) ∙ ended,
+    sym (same (λ q. q.began) (λ q first upto. refl) u) ∙ began,
+    sym (same_outcome t) ∙ ok,
+  )
+
+  precedes_so : (orders : Orders) (t u : ℕ) → Precedes left orders t u → Precedes r orders t u
+  precedes_so orders t u (inl (asked, is)) = inl (asked, session t u is)
+  precedes_so orders t u (inr (asked, is)) = inr (asked, earlier t u is)
 
   module _ (x : Explanation) where
     writer : (t k : ℕ) → IsWriter left x t k → IsWriter r x t k
@@ -81,51 +169,37 @@ module _ (r left : Recording) (told : ℕ → Bool) (l : IsLeft r told left) whe
         inl (u, (writer_back u k is, upto, λ w also le. newest w (writer w k also) le), left_there)
     sees k at xs (inr (none, empty)) = inr (λ w also. none w (writer w k also), empty)
 
-    session : (t u : ℕ) → IsSession left t u → IsSession r t u
-    session t u (p, lt, within, one, other, ok) = (
-      p,
-      lt,
-      subst (λ n. u < n) l.count within,
-      sym (same (λ q. q.process) (λ b q. refl) t) ∙ one,
-      sym (same (λ q. q.process) (λ b q. refl) u) ∙ other,
-      is_ok t ok,
-    )
-
-    earlier : (t u : ℕ) → IsEarlier left t u → IsEarlier r t u
-    earlier t u (e, b, lt, ended, began, ok) = (
-      e,
-      b,
-      lt,
-      sym (same (λ q. q.ended) (λ c q. refl) t) ∙ ended,
-      sym (same (λ q. q.began) (λ c q. refl) u) ∙ began,
-      is_ok t ok,
-    )
-
-    precedes_so : (orders : Orders) (t u : ℕ) → Precedes left orders t u → Precedes r orders t u
-    precedes_so orders t u (inl (asked, is)) = inl (asked, session t u is)
-    precedes_so orders t u (inr (asked, is)) = inr (asked, earlier t u is)
+    -- a read that is left finds the same
+    reads : (orders : Orders) → Explains r orders x → (t p : ℕ) (span : Span)
+        → (transaction_at left t).outcome ≡ Ok → (op_at left t p).act ≡ Read span
+        → (xs : List ℕ) × Sees left x (op_at left t p).key (x.start t) xs
+        × (list_of left span ≡ after (take p (ops_of left t)) (op_at left t p).key xs)
+    reads orders e t p span ok is =
+        let all : ops_of left t ≡ ops_of r t = kept t ∙ all_there (told t) (ops_of r t) p span
+        (subst (λ (os : List Op). (slice_index_or os p no_op).act ≡ Read span) (kept t) is) in
+        let op : op_at left t p ≡ op_at r t p = ap (λ (os : List Op). slice_index_or os p no_op) all in
+        let (xs, seen, there) = e.reads t p span (sym (same_outcome t) ∙ ok) (sym (ap (λ (o : Op). o.act) op) ∙ is) in (
+          xs,
+          subst (λ k. Sees left x k (x.start t) xs) (sym (ap (λ (o : Op). o.key) op))
+              (sees (op_at r t p).key (x.start t) xs seen),
+          ap (λ es. slice_range es span.first (span.first + span.count)) l.elements ∙ there
+              ∙ ap (λ k. after (take p (ops_of r t)) k xs) (sym (ap (λ (o : Op). o.key) op))
+              ∙ ap (λ (os : List Op). after (take p os) (op_at left t p).key xs) (sym all),
+        )
 
     pub explains_left : (orders : Orders) → Explains r orders x → Explains left orders x
     explains_left orders e = record {
-      ok = λ t lt is. e.ok t (subst (λ n. t < n) l.count lt) (is_ok t is);
-      fail = λ t is. e.fail t (is_fail t is);
+      ok = λ t lt is. e.ok t (subst (λ n. t < n) l.count lt) (sym (same_outcome t) ∙ is);
+      fail = λ t is. e.fail t (sym (same_outcome t) ∙ is);
       above = e.above;
       apart = λ k t u one other differ. e.apart k t u (writer t k one) (writer u k other) differ;
       leaves = λ k t is.
           (let (xs, seen, there) = e.leaves k t (writer t k is) in (
             xs,
             sees k (x.start t) xs seen,
-            there ∙ ap (λ (os : List Op). after os k xs) (sym (ops_same t)),
+            there ∙ sym (without_after (told t) (ops_of r t) k xs)
+                ∙ ap (λ (os : List Op). after os k xs) (sym (kept t)),
           ));
-      reads = λ t p span ok is.
-          (let op : op_at left t p ≡ op_at r t p = ap (λ (os : List Op). slice_index_or os p no_op) (ops_same t) in
-          let (xs, seen, there) = e.reads t p span (is_ok t ok) (sym (ap (λ (o : Op). o.act) op) ∙ is) in (
-            xs,
-            subst (λ k. Sees left x k (x.start t) xs) (sym (ap (λ (o : Op). o.key) op))
-                (sees (op_at r t p).key (x.start t) xs seen),
-            ap (λ es. slice_range es span.first (span.first + span.count)) l.elements ∙ there
-                ∙ ap (λ k. after (take p (ops_of r t)) k xs) (sym (ap (λ (o : Op). o.key) op))
-                ∙ ap (λ (os : List Op). after (take p os) (op_at left t p).key xs) (sym (ops_same t)),
-          ));
+      reads = reads orders e;
       precedes = λ t u is one other. e.precedes t u (precedes_so orders t u is) one other;
     }

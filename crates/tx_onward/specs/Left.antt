@@ -1,34 +1,42 @@
--- What is left of a recording when of some transactions what they read is not known any more: they
--- may have committed, with what they put.
-use Rattle.std.specs.Prelude.{◌≡◌, ℕ, ◌<◌, Bool, false, cond, List, [], ◌∷◌, ◌++◌, zero, suc, slice_index_or}
-use Rattle.tx_recording.specs.declared.recording.Outcome.TheVariants.{Info}
+-- What is left of a recording when what some transactions read is taken out of it.
+use Rattle.std.specs.Prelude.{◌≡◌, ℕ, ◌<◌, Bool, true, false, cond, List}
+use Rattle.std.specs.List.{filter}
+use Rattle.tx_recording.specs.declared.recording.Act.{Act}
+use Rattle.tx_recording.specs.declared.recording.Act.TheVariants.{Append, Write, Read}
+use Rattle.tx_recording.specs.declared.recording.Op.{Op}
 use Rattle.tx_recording.specs.declared.recording.Transaction.{Transaction}
 use Rattle.tx_recording.specs.declared.recording.Recording.{Recording}
-use Rattle.tx_recording.specs.Recordings.{txns_of, transaction_at, no_transaction}
+use Rattle.tx_recording.specs.Recordings.{txns_of, transaction_at, ops_of}
 
--- where it was told of, nobody knows what became of a transaction
-abbrev pub without : Bool → Transaction → Transaction
-without is_told t = record {
+-- it puts something
+abbrev pub is_put : Act → Bool
+is_put (Append v) = true
+is_put (Write v) = true
+is_put (Read span) = false
+
+-- the operations, where it was told of without its reads
+abbrev pub without : Bool → List Op → List Op
+without is_told os = cond is_told (filter (λ o. is_put o.act) os) os
+
+-- the same transaction, but that its operations stand elsewhere
+abbrev pub moved : Transaction → ℕ → ℕ → Transaction
+moved t first upto = record {
   id = t.id;
-  outcome = cond is_told Info t.outcome;
+  outcome = t.outcome;
   process = t.process;
   began = t.began;
   ended = t.ended;
-  first = t.first;
-  upto = t.upto;
+  first = first;
+  upto = upto;
 }
 
--- the first of the transactions, as many as that
-abbrev pub withouts : List Bool → List Transaction → ℕ → List Transaction
-withouts told ts zero = []
-withouts told ts (suc n) = withouts told ts n
-    ++ without (slice_index_or told n false) (slice_index_or ts n no_transaction) ∷ []
-
--- it is the recording but for that
+-- Each transaction is the same, but that its operations stand elsewhere, and they are the same but
+-- for the reads of those that were told of. All else is the same.
 pub record IsLeft (r : Recording) (is_told : ℕ → Bool) (left : Recording) : Type 0 where
-  pub transactions : (t : ℕ) → t < txns_of r → transaction_at left t ≡ without (is_told t) (transaction_at r t)
+  pub transactions : (t : ℕ) → t < txns_of r → transaction_at left t
+      ≡ moved (transaction_at r t) (transaction_at left t).first (transaction_at left t).upto
+  pub ops : (t : ℕ) → t < txns_of r → ops_of left t ≡ without (is_told t) (ops_of r t)
   pub count : txns_of left ≡ txns_of r
-  pub ops : left.ops.items ≡ r.ops.items
   pub elements : left.elements.items ≡ r.elements.items
   pub keys : left.keys ≡ r.keys
   pub values : left.values ≡ r.values

@@ -1,9 +1,10 @@
 -- Of which transactions a no tells: of those on its cycle, on one of the rounds that refute it, or
--- of the one that read what it names. Of a cycle of writes alone it also tells of those that read
--- in the key of its first edge what that edge's second transaction put there: that is why the order
--- of its writes is known.
-use Rattle.std.specs.Prelude.{ℕ, ◌+◌, ◌==◌, Bool, true, false, ◌&&◌, ◌||◌, cond, List, [], ◌∷◌, length, nat_le, Option, Some, None, slice_get}
-use Rattle.std.specs.List.{list_any}
+-- of the one that read what it names. Of a cycle of which no edge is by a read it also tells of
+-- those that read in the key of its first edge of writes what one of that edge's transactions put
+-- there: that is why the order of its writes is known.
+use Rattle.std.specs.Prelude.{ℕ, ◌+◌, ◌==◌, Bool, true, false, ◌&&◌, ◌||◌, cond, List, [], ◌∷◌, length, nat_le, Option, Some, None}
+use Rattle.std.specs.List.{find, list_any}
+use Rattle.std.specs.Option.{is_some}
 use Rattle.tx_verdict.specs.declared.anomaly.Anomaly.{Anomaly}
 use Rattle.tx_verdict.specs.declared.anomaly.Anomaly.TheVariants.{G0}
 use Rattle.tx_recording.specs.declared.recording.Outcome.{Outcome}
@@ -13,8 +14,6 @@ use Rattle.tx_recording.specs.declared.recording.Act.TheVariants.{Append, Write,
 use Rattle.tx_recording.specs.declared.recording.Op.{Op}
 use Rattle.tx_recording.specs.declared.recording.Recording.{Recording}
 use Rattle.tx_recording.specs.Recordings.{transaction_at, ops_of, list_of}
-use Rattle.tx_verdict.specs.declared.verdict.Beside.{Beside}
-use Rattle.tx_verdict.specs.declared.verdict.Beside.TheVariants.{Nothing}
 use Rattle.tx_verdict.specs.declared.verdict.Cycle.{Cycle}
 use Rattle.tx_verdict.specs.declared.verdict.CycleStep.{CycleStep}
 use Rattle.tx_verdict.specs.declared.verdict.Verdict.{Verdict}
@@ -53,15 +52,19 @@ read_by r (Read span) = cond (nat_le (span.first + span.count) (length r.element
 abbrev pub sees_in : Recording → ℕ → List Op → Op → Bool
 sees_in r k os o = (o.key == k) && sees_one os (read_by r o.act)
 
--- t read in the key of an edge what its second transaction put there
-abbrev pub sees_second : Recording → ℕ → Option ℕ → ℕ → Bool
-sees_second r u None t = false
-sees_second r u (Some k) t = list_any (sees_in r k (ops_of r u)) (ops_of r t)
+-- t read in the key, if there is one, what u put there
+abbrev pub sees_put : Recording → ℕ → Option ℕ → ℕ → Bool
+sees_put r u None t = false
+sees_put r u (Some k) t = list_any (sees_in r k (ops_of r u)) (ops_of r t)
 
--- the same of the first edge, where there is one
-abbrev pub sees_first : Recording → Option CycleStep → ℕ → Bool
-sees_first r None t = false
-sees_first r (Some s) t = sees_second r s.to s.key t
+-- the first of the edges that has a key
+abbrev pub first_keyed : List CycleStep → Option CycleStep
+first_keyed steps = find (λ s. is_some s.key) steps
+
+-- t read in the key of an edge, where there is one, what one of its transactions put there
+abbrev pub sees_one_of : Recording → Option CycleStep → ℕ → Bool
+sees_one_of r None t = false
+sees_one_of r (Some s) t = sees_put r s.to s.key t || sees_put r s.from s.key t
 
 -- t is on the cycle
 abbrev pub is_on : List CycleStep → ℕ → Bool
@@ -80,20 +83,13 @@ abbrev pub is_on_one : Refutation → ℕ → Bool
 is_on_one x t = is_on x.last.items t || (list_any (is_round_of t) x.facts.items
     || list_any (is_lemma_of t) x.lemmas.items)
 
-abbrev pub is_writes : Anomaly → Bool
-is_writes G0 = true
-is_writes _ = false
-
-abbrev pub is_alone : Beside → Bool
-is_alone Nothing = true
-is_alone _ = false
-
--- all edges of the cycle are of writes
-abbrev pub is_dirty : Cycle → Bool
-is_dirty c = is_writes c.anomaly && is_alone c.beside
+-- no edge of the cycle is by a read
+abbrev pub is_dirty : Anomaly → Bool
+is_dirty G0 = true
+is_dirty _ = false
 
 abbrev pub is_named : Recording → Cycle → ℕ → Bool
-is_named r c t = is_on c.steps.items t || (is_dirty c && sees_first r (slice_get c.steps.items 0) t)
+is_named r c t = is_on c.steps.items t || (is_dirty c.anomaly && sees_one_of r (first_keyed c.steps.items) t)
 
 -- what is told is told of t
 abbrev pub is_of : Recording → Verdict → ℕ → Bool

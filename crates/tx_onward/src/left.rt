@@ -1,10 +1,11 @@
-//! What is left of a recording when of some transactions what they read is not known any more.
-ghost use Rattle.std.specs.Prelude.{◌≡◌, IfOk, false, slice_index_or, length};
-ghost use Rattle.tx_recording.specs.Recordings.{IsRecording};
-ghost use Rattle.tx_onward.specs.Left.{without, withouts, IsLeft};
+//! What is left of a recording when what some transactions read is taken out of it.
+ghost use Rattle.std.specs.Prelude.{◌≡◌, ◌≤◌, ◌<◌, ◌++◌, ◌∷◌, [], IfOk, OnOk, false, slice_index_or, length};
+ghost use Rattle.std.specs.List.{AllPairs, filter};
+ghost use Rattle.tx_recording.specs.Recordings.{IsRecording, txns_of, transaction_at, ops_of as ops_in};
+ghost use Rattle.tx_onward.specs.Left.{is_put, without, moved, IsLeft};
 
 use std::alloc::{AllocError, Global};
-use tx_recording::{Op, Outcome, Recording, Transaction};
+use tx_recording::{Act, Op, Recording, Transaction};
 
 // Whether a transaction was told of.
 fn is_told(told: &[bool], txn: usize) -> bool
@@ -16,41 +17,65 @@ fn is_told(told: &[bool], txn: usize) -> bool
     }
 }
 
-// Where it was told of, nobody knows what became of a transaction.
-fn without(is_told: bool, transaction: Transaction) -> Transaction
-    ensures { result ≡ without is_told transaction }
+// Whether an act puts something.
+fn is_put(act: Act) -> bool
+    ensures { result ≡ is_put act }
 {
-    if !is_told {
-        return transaction;
+    match act {
+        Act::Append(_) | Act::Write(_) => true,
+        Act::Read(_) => false,
     }
-    Transaction {
-        outcome: Outcome::Info,
+}
+
+// Adds those operations that put something.
+fn put_puts(left: &mut Vec<Op>, ops: &[Op]) -> Result<(), AllocError>
+    ensures { OnOk result (left.new.items ≡ left.old.items ++ filter (λ o. is_put o.act) ops.now) }
+{
+    for i in 0..ops.len() {
+        let op = ops[i];
+        if is_put(op.act) {
+            left.push(op)?;
+        }
+    }
+    Ok(())
+}
+
+// Adds operations, without the reads where their transaction was told of.
+fn put_ops(left: &mut Vec<Op>, ops: &[Op], is_told: bool) -> Result<(), AllocError>
+    ensures { OnOk result (left.new.items ≡ left.old.items ++ without is_told ops.now) }
+{
+    if is_told {
+        return put_puts(left, ops);
+    }
+    left.extend_from_slice(ops)?;
+    Ok(())
+}
+
+// Adds a transaction, without its reads where it was told of.
+fn put_one(
+    transactions: &mut Vec<Transaction>,
+    left: &mut Vec<Op>,
+    recording: &Recording,
+    is_told: bool,
+    txn: usize,
+) -> Result<(), AllocError>
+    requires recording { IsRecording recording.now }
+    requires within { txn < txns_of recording.now }
+    requires room { length left.old.items ≤ (transaction_at recording.now txn).first }
+    ensures ops { OnOk result (left.new.items ≡ left.old.items ++ without is_told (ops_in recording.now txn)) }
+    ensures transactions { OnOk result (transactions.new.items ≡ transactions.old.items
+        ++ moved (transaction_at recording.now txn) (length left.old.items) (length left.new.items) ∷ []) }
+{
+    let transaction = recording.transactions[txn];
+    let first = left.len() as u32;
+    put_ops(left, recording.ops_of(txn), is_told)?;
+    let upto = left.len() as u32;
+    transactions.push(Transaction {
+        first,
+        upto,
         ..transaction
-    }
-}
-
-// The transactions, where they were told of without what they read.
-fn transactions_of(
-    alloc: Global,
-    transactions: &[Transaction],
-    told: &[bool],
-) -> Result<Vec<Transaction>, AllocError>
-    ensures { IfOk result (λ left. left.items ≡ withouts told.now transactions.now (length transactions.now)) }
-{
-    let mut left = Vec::new(alloc);
-    for t in 0..transactions.len() {
-        left.push(without(is_told(told, t), transactions[t]))?;
-    }
-    Ok(left)
-}
-
-// The same operations.
-fn same_ops(alloc: Global, ops: &[Op]) -> Result<Vec<Op>, AllocError>
-    ensures { IfOk result (λ same. same.items ≡ ops.now) }
-{
-    let mut same = Vec::new(alloc);
-    same.extend_from_slice(ops)?;
-    Ok(same)
+    })?;
+    Ok(())
 }
 
 // The same values.
@@ -62,16 +87,29 @@ fn same_values(alloc: Global, values: &[u32]) -> Result<Vec<u32>, AllocError>
     Ok(same)
 }
 
-/// What is left of a recording when of those transactions that were told of what they read is not
-/// known any more.
+/// What is left of a recording when what those transactions read that were told of is taken out:
+/// they did all else at the same time, and are known to have committed as before. The operations of
+/// each transaction stand behind those of the transactions before it.
 pub fn left_of(alloc: Global, recording: &Recording, told: &[bool]) -> Result<Recording, AllocError>
     requires recording { IsRecording recording.now }
+    requires in_turn { AllPairs (λ t u. t.upto ≤ u.first) recording.now.transactions.items }
     ensures left { IfOk result (λ left. IsLeft recording.now (λ t. slice_index_or told.now t false) left) }
     ensures recording { IfOk result (λ left. IsRecording left) }
 {
+    let mut transactions = Vec::new(alloc);
+    let mut ops = Vec::new(alloc);
+    for txn in 0..recording.transactions.len() {
+        put_one(
+            &mut transactions,
+            &mut ops,
+            recording,
+            is_told(told, txn),
+            txn,
+        )?;
+    }
     Ok(Recording {
-        transactions: transactions_of(alloc, recording.transactions.as_slice(), told)?,
-        ops: same_ops(alloc, recording.ops.as_slice())?,
+        transactions,
+        ops,
         elements: same_values(alloc, recording.elements.as_slice())?,
         keys: recording.keys,
         values: recording.values,

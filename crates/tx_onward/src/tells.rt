@@ -1,11 +1,11 @@
 //! Which transactions a verdict tells of.
-ghost use Rattle.std.specs.Prelude.{◌≡◌, slice_get, Option};
+ghost use Rattle.std.specs.Prelude.{◌≡◌, Option};
 ghost use Rattle.std.specs.List.{list_any};
 ghost use Rattle.tx_recording.specs.Recordings.{IsRecording, transaction_at, ops_of as ops_in};
-ghost use Rattle.tx_onward.specs.Tells.{is_ok as is_ok_outcome, is_value, puts_value, sees_one, read_by, sees_in, sees_second, sees_first, is_on, is_round_of, is_lemma_of, is_on_one, is_dirty, is_named, tells};
+ghost use Rattle.tx_onward.specs.Tells.{is_ok as is_ok_outcome, is_value, puts_value, sees_one, read_by, sees_in, sees_put, sees_one_of, first_keyed, is_on, is_round_of, is_lemma_of, is_on_one, is_dirty, is_named, tells};
 
 use tx_recording::{Act, Op, Recording, Span};
-use tx_verdict::{Anomaly, Beside, Cycle, CycleStep, Lemma, Refutation, Settled, Verdict};
+use tx_verdict::{Anomaly, Cycle, CycleStep, Lemma, Refutation, Settled, Verdict};
 
 // Whether an act puts a value.
 fn is_value(act: Act, value: u32) -> bool
@@ -87,7 +87,7 @@ fn ops_of(recording: &Recording, txn: u32) -> &[Op]
 // Whether a transaction read in the key what another one put.
 fn sees_put(recording: &Recording, key: u32, by: u32, txn: u32) -> bool
     requires { IsRecording recording.now }
-    ensures { result ≡ sees_second recording.now by (Option.Some key) txn }
+    ensures { result ≡ sees_put recording.now by (Option.Some key) txn }
 {
     let put = ops_of(recording, by);
     let ops = ops_of(recording, txn);
@@ -99,19 +99,27 @@ fn sees_put(recording: &Recording, key: u32, by: u32, txn: u32) -> bool
     false
 }
 
-// Whether a transaction read in the key of the first edge what its second transaction put there.
-fn sees_first(recording: &Recording, steps: &[CycleStep], txn: u32) -> bool
-    requires { IsRecording recording.now }
-    ensures { result ≡ sees_first recording.now (slice_get steps.now 0) txn }
+// The first of the edges that has a key.
+fn first_keyed(steps: &[CycleStep]) -> Option<CycleStep>
+    ensures { result ≡ first_keyed steps.now }
 {
-    match steps.first() {
+    steps.iter().find(|step| step.key.is_some()).copied()
+}
+
+// Whether a transaction read in the key of an edge what one of its transactions put there.
+fn sees_one_of(recording: &Recording, step: Option<CycleStep>, txn: u32) -> bool
+    requires { IsRecording recording.now }
+    ensures { result ≡ sees_one_of recording.now step txn }
+{
+    match step {
         Some(
             CycleStep {
                 key: Some(key),
+                from,
                 to,
                 ..
             },
-        ) => sees_put(recording, *key, *to, txn),
+        ) => sees_put(recording, key, to, txn) || sees_put(recording, key, from, txn),
         Some(_) | None => false,
     }
 }
@@ -163,11 +171,11 @@ fn is_on_one(refutation: &Refutation, txn: u32) -> bool
         || is_learned_by(lemmas, txn)
 }
 
-// Whether all edges of a cycle are of writes.
-fn is_dirty(cycle: &Cycle) -> bool
-    ensures { result ≡ is_dirty cycle.now }
+// Whether no edge of a cycle is by a read.
+fn is_dirty(anomaly: Anomaly) -> bool
+    ensures { result ≡ is_dirty anomaly }
 {
-    matches!(cycle.anomaly, Anomaly::G0) && matches!(cycle.beside, Beside::Nothing)
+    matches!(anomaly, Anomaly::G0)
 }
 
 // Whether a cycle tells of a transaction.
@@ -176,7 +184,7 @@ fn is_named(recording: &Recording, cycle: &Cycle, txn: u32) -> bool
     ensures { result ≡ is_named recording.now cycle.now txn }
 {
     let steps = cycle.steps.as_slice();
-    is_on(steps, txn) || is_dirty(cycle) && sees_first(recording, steps, txn)
+    is_on(steps, txn) || is_dirty(cycle.anomaly) && sees_one_of(recording, first_keyed(steps), txn)
 }
 
 // Whether a transaction is known to have committed.

@@ -1,5 +1,5 @@
 -- None ended before it began.
-use Rattle.std.proofs.Common.{◌≡◌, ℕ, ◌<◌, true≢false, arith, sym, ◌∙◌}
+use Rattle.std.proofs.Common.{true≢false, arith, sym, ◌∙◌}
 use Rattle.std.proofs.lemmas.Grind.{common_steps}
 use Rattle.tx_import.specs.Recorders.{IsBackward}
 use Rattle.tx_import.proofs.Bares.{below_more}
