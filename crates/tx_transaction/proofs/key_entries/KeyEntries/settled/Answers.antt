@@ -18,4 +18,4 @@ returns-clause-settled c =
     settled_behind c.args.phase few more c.args.self.now c.len-few.result c.keys-keys.result c.saturating_add.result
     c.self.view_is (omega (arith, c.len-few.ensures))
     (omega (arith, c.saturating_add.ensures, min-le_left (c.len-few.result + c.keys-keys.result) (2 ^ 64 - 1)))
-    (c.keys-keys.ensures more c.self.invariant.2)
+    (c.keys-keys.ensures.settled more c.self.invariant.2)
