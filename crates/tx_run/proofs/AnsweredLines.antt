@@ -7,6 +7,7 @@ use Rattle.std.proofs.lemmas.List.{map-append}
 use Rattle.std.proofs.lemmas.List.Folds.{list_any-append}
 use Rattle.tx_types.specs.declared.fault.Cause.{Cause}
 use Rattle.tx_core.specs.Histories.{History}
+use Rattle.tx_ops.specs.declared.stage.SessionStage.{SessionStage}
 use Rattle.tx_run.specs.Played.{Leads, Where, away, is_away, is_moving, moving}
 use Rattle.tx_workload.specs.declared.reply.LineAnswer.{LineAnswer}
 use Rattle.tx_workload.specs.declared.reply.LineAnswer.TheVariants.{Plain, Ended}
@@ -292,9 +293,10 @@ leads a b o goes promises = record {
       };
 }
 
-pub promised : (j : Working) (last : Option History) → IsSound j → j.left ≡ [] → j.going ≡ None
-    → Promises j (record { number = j.number; log = j.log; faulted = j.faulted; last = last })
-promised j last sound left going = record {
+pub promised : (j : Working) (stage : Option (ℕ × SessionStage)) (last : Option History) → IsSound j → j.left ≡ []
+    → j.going ≡ None
+    → Promises j (record { number = j.number; log = j.log; faulted = j.faulted; stage = stage; last = last })
+promised j stage last sound left going = record {
   seat = refl;
   kept = λ e. e;
   faulted = λ e. e;
@@ -329,7 +331,7 @@ both_lead bounds source a b o goes on (promises, plays) = (
   record {
     plays = λ known here unlost.
         let l = on known here in
-        leads_out bounds source a.stands b.stands a.log b.log o.log o.last (promises.kept unlost) l
+        leads_out bounds source a.stands b.stands a.log b.log o.log o.stage o.last (promises.kept unlost) l
         (plays.plays known l.stands unlost);
   },
 )

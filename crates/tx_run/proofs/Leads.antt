@@ -9,6 +9,7 @@ use Rattle.tx_types.specs.declared.key.Key.{Key}
 use Rattle.tx_core.specs.Histories.{History}
 use Rattle.tx_client.specs.Calls.{Seated}
 use Rattle.tx_run.proofs.Played.{kept_told}
+use Rattle.tx_ops.specs.declared.stage.SessionStage.{SessionStage}
 use Rattle.tx_journal.specs.Known.{Known}
 use Rattle.tx_steps.specs.declared.program.Program.TheVariants.{Run}
 use Rattle.tx_steps.specs.declared.step.Step.{Step}
@@ -33,7 +34,7 @@ use Rattle.tx_workload.specs.Steps.{Says}
 use Rattle.tx_transfer.specs.declared.plain_reply.PlainReply.{PlainReply}
 use Rattle.tx_run.specs.Jobs.{AdvancesSo, IsFresh, Output, Working}
 use Rattle.tx_run.specs.Transfers.{HearsMore, IsGivenUp, Transfers}
-use Rattle.tx_run.specs.Played.{EndsTransfer, IsPlayed, Leads, LinePlays, PlayedFrom, Plays, PlaysOne, PlaysOut, SaysTransfer, SessionPlays, Standing, StopsSo, Where, at, away, free, fresh, is_away, is_moving, known_at, live, moving}
+use Rattle.tx_run.specs.Played.{EndsTransfer, IsPlayed, IsStageOf, Leads, LinePlays, PlayedFrom, Plays, PlaysOne, PlaysOut, SaysTransfer, SessionPlays, Standing, StopsSo, Where, at, away, free, fresh, is_away, is_moving, known_at, live, moving}
 
 -- ---- a line that says a transfer
 
@@ -342,34 +343,39 @@ module _ (bounds : List Key) (source : Option (List ℕ)) where
 
   -- ---- what a job comes to
 
-  pub leads_out : (a b : Where) (x y o : Logged) (known : Option History) → y.lost ≡ false
-      → Leads bounds source a x y b → PlaysOut bounds source b y o known → PlaysOut bounds source a x o known
-  leads_out a b x y o known unlost leads out =
+  pub leads_out : (a b : Where) (x y o : Logged) (stage : Option (ℕ × SessionStage)) (known : Option History)
+      → y.lost ≡ false → Leads bounds source a x y b → PlaysOut bounds source b y o stage known
+      → PlaysOut bounds source a x o stage known
+  leads_out a b x y o stage known unlost leads out =
       let u = leads.leads unlost in
       record {
         more = u.more ++ out.more;
         all = out.all ∙ ap (λ (l : List LineReply). l ++ out.more) u.all ∙ append_assoc x.replies u.more out.more;
         last = out.last;
         plays = u.leads out.more out.last out.plays;
+        far = out.far;
         knew = out.knew;
       }
 
   -- nothing more is played
-  pub ends_out : (w : Where) (s : Standing) (old new : Logged) (known : Option History) → w ≡ at s → new ≡ old
-      → known ≡ Some (known_at s).events → PlaysOut bounds source w old new known
-  ends_out w s old new known there same knew = record {
+  pub ends_out : (w : Where) (s : Standing) (old new : Logged) (stage : Option (ℕ × SessionStage))
+      (known : Option History) → w ≡ at s → new ≡ old → IsStageOf s old.replies stage
+      → known ≡ Some (known_at s).events → PlaysOut bounds source w old new stage known
+  ends_out w s old new stage known there same is_stage knew = record {
     more = [];
     all = ap (λ (l : Logged). l.replies) same ∙ sym (append-nil old.replies);
     last = s;
     plays = subst (λ (f : Where). PlayedFrom bounds source f [] s) (sym there) refl;
+    far = subst (λ (l : Logged). IsStageOf s l.replies stage) (sym same) is_stage;
     knew = knew;
   }
 
   -- a job that was fresh
   pub fresh_plays : (job : Working) (output : Output) → IsFresh job → output.log.seat ≡ job.log.seat
       → (is_away job.stands ≡ false → output.log.lost ≡ false
-      → PlaysOut bounds source job.stands job.log output.log output.last)
-      → output.log.lost ≡ false → SessionPlays bounds source output.log.seat output.log.replies output.last
+      → PlaysOut bounds source job.stands job.log output.log output.stage output.last)
+      → output.log.lost ≡ false
+      → SessionPlays bounds source output.log.seat output.log.replies output.stage output.last
   fresh_plays job output is_fresh seat plays unlost =
       let out = plays (ap is_away is_fresh.0) unlost in
       let from = subst (λ (w : Where). PlayedFrom bounds source w out.more out.last) is_fresh.0 out.plays
@@ -379,5 +385,6 @@ module _ (bounds : List Key) (source : Option (List ℕ)) where
         last = out.last;
         plays = subst (λ (n : ℕ). Plays bounds source (free (fresh n)) output.log.replies out.last) (sym seat)
             (subst (λ (l : List LineReply). Plays bounds source (free (fresh job.log.seat)) l out.last) (sym all) from);
+        far = out.far;
         knew = out.knew;
       }

@@ -7,4 +7,5 @@ pub mod LinesLeft
 pub mod OwnLines
 pub mod OwnSeats
 pub mod Played
+pub mod Subsequences
 pub mod Totals

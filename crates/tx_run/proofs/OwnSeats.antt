@@ -131,6 +131,11 @@ pub if_ok : {T E : Type 0} {P Q : T → Type 0} (r : Result T E) → ((x : T) �
 if_ok (Ok x) then_so p = then_so x p
 if_ok (Err e) then_so p = tt
 
+-- what follows of two things that hold of a value, where there is one
+pub both_ok : {T E : Type 0} {P Q : T → Type 0} (r : Result T E) → IfOk r P → IfOk r Q → IfOk r (λ x. P x × Q x)
+both_ok (Ok x) p q = (p, q)
+both_ok (Err e) p q = tt
+
 -- seats that were dealt in their order have the numbers from the first one's on, and know nothing
 pub from_dealt : (first : ℕ) (seats : List Known)
     → ((k : ℕ) → k < length seats → slice_get seats k ≡ Some (fresh (first + k))) → AreFrom first seats
@@ -149,7 +154,7 @@ played_outputs bounds source last jobs outputs own len kept k output of_out is_k
     from_job (slice_get jobs k) refl
   where
     from_job : (o : Option Working) → slice_get jobs k ≡ o
-        → SessionPlays bounds source output.log.seat output.log.replies output.last
+        → SessionPlays bounds source output.log.seat output.log.replies output.stage output.last
     from_job (Some job) of_job =
         let both = kept k job output of_job of_out in
         fresh_plays bounds source job output (own k job of_job).2 both.0.seat (both.1.plays is_known)

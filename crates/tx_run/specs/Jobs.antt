@@ -4,6 +4,7 @@ use Rattle.std.specs.Prelude.{Option, Some, None, IfSome, is_some, slice_get}
 use Rattle.std.specs.Option.{option_to_list}
 use Rattle.std.specs.List.{AllPairs, flat_map}
 use Rattle.tx_core.specs.Histories.{History, Begins, drawer}
+use Rattle.tx_ops.specs.declared.stage.SessionStage.{SessionStage}
 use Rattle.tx_journal.specs.Known.{Known}
 use Rattle.tx_types.specs.declared.key.Key.{Key}
 use Rattle.tx_transfer.specs.declared.progress.TransferProgress.{TransferProgress}
@@ -30,12 +31,13 @@ pub record Working : Type 0 where
   pub stands : Where
   pub faulted : Bool
 
--- what a job came to: its number, its log, whether a fault of the script ended it, and what its
--- seat knew at last
+-- what a job came to: its number, its log, whether a fault of the script ended it, how far its
+-- session was, with the number of its last line, and what its seat knew at last
 pub record Output : Type 0 where
   pub number : ℕ
   pub log : Logged
   pub faulted : Bool
+  pub stage : Option (ℕ × SessionStage)
   pub last : Option History
 
 -- the numbers of a job's lines: those that were answered, that of the transfer, and those left
@@ -83,7 +85,7 @@ pub record Promises (job : Working) (output : Output) : Type 0 where
 -- Where the text is known, a job's output has answers of a play from where the job stands.
 pub record WillPlay (bounds : List Key) (source : Option (List ℕ)) (job : Working) (output : Output) : Type 0 where
   pub plays : is_some source ≡ true → is_away job.stands ≡ false → output.log.lost ≡ false
-      → PlaysOut bounds source job.stands job.log output.log output.last
+      → PlaysOut bounds source job.stands job.log output.log output.stage output.last
 
 -- the seat that drew the start of an outcome that a line is told is not below this one
 abbrev pub IsAbove : History → ℕ → LineAnswer → Type 0
@@ -160,23 +162,34 @@ AreAnswered lines outputs = (length outputs ≡ length lines) × ((k : ℕ) (num
 abbrev pub ArePlayed : List Key → Option (List ℕ) → List Output → Type 0
 ArePlayed bounds source outputs = (k : ℕ) (output : Output) → slice_get outputs k ≡ Some output
     → is_some source ≡ true → output.log.lost ≡ false
-    → SessionPlays bounds source output.log.seat output.log.replies output.last
+    → SessionPlays bounds source output.log.seat output.log.replies output.stage output.last
+
+-- how far the sessions of these jobs were, of which that is told, in the order of the jobs
+abbrev pub stages_in : List Output → List (ℕ × SessionStage)
+stages_in outputs = flat_map (λ output. option_to_list output.stage) outputs
+
+-- the first list has some of the elements of the second, in their order
+abbrev pub IsSubsequence : {X : Type 0} → List X → List X → Type 0
+IsSubsequence [] ys = Unit {0}
+IsSubsequence (x ∷ xs) [] = ⊥
+IsSubsequence (x ∷ xs) (y ∷ ys) = ((x ≡ y) × IsSubsequence xs ys) ⊎ IsSubsequence (x ∷ xs) ys
 
 -- What a run came to that has lines of these numbers before any session, and whose sessions have
 -- these: the answers of those, and of its sessions, and no other. Each session had seen a beginning
 -- of what is seen in the end, and none lost an answer: each line of a session is answered, in order
--- and once, but those behind a fault. Each was played, by a seat of its own.
+-- and once, but those behind a fault. Each was played, by a seat of its own. What is told of how
+-- far sessions were is so of some of them, in their order; others are left out, for want of memory.
 abbrev pub ComesOf : List Key → Option (List ℕ) → List ℕ → List (List ℕ) → History
-    → List LineReply → Type 0
-ComesOf bounds source firsts lines h replies = (sessions : List Output)
+    → List LineReply → List (ℕ × SessionStage) → Type 0
+ComesOf bounds source firsts lines h replies stages = (sessions : List Output)
     × AreGathered bounds source firsts h replies sessions × AreAnswered lines sessions × AreFalling sessions
-    × ArePlayed bounds source sessions
+    × ArePlayed bounds source sessions × IsSubsequence stages (stages_in sessions)
 
 -- this, of the lines of a text: each session has those that the text says are its own, and before
 -- any come line 1, where it says the keys between the regions, and the seeds; of some lines, where
 -- the text is not known
-abbrev pub ComesOfText : Option (List ℕ) → List Key → History → List LineReply → Type 0
-ComesOfText None bounds h replies =
-    (firsts : List ℕ) × (lines : List (List ℕ)) × ComesOf bounds None firsts lines h replies
-ComesOfText (Some text) bounds h replies =
-    ComesOf bounds (Some text) (firsts_of (lines_of text)) (sessions_of (lines_of text)) h replies
+abbrev pub ComesOfText : Option (List ℕ) → List Key → History → List LineReply → List (ℕ × SessionStage) → Type 0
+ComesOfText None bounds h replies stages =
+    (firsts : List ℕ) × (lines : List (List ℕ)) × ComesOf bounds None firsts lines h replies stages
+ComesOfText (Some text) bounds h replies stages =
+    ComesOf bounds (Some text) (firsts_of (lines_of text)) (sessions_of (lines_of text)) h replies stages

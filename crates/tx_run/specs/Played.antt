@@ -18,6 +18,8 @@ use Rattle.tx_steps.specs.Steps.{Text}
 use Rattle.tx_reply.specs.declared.reply.ScriptReply.{ScriptReply}
 use Rattle.tx_reply.specs.declared.reply.ScriptReply.TheVariants as reply
 use Rattle.tx_ops.specs.Calls.{Said, call_walk}
+use Rattle.tx_ops.specs.Stages.{stage_of}
+use Rattle.tx_ops.specs.declared.stage.SessionStage.{SessionStage}
 use Rattle.tx_transfer.specs.Acts.{Acts}
 use Rattle.tx_transfer.specs.Sends.{SendsOver}
 use Rattle.tx_transfer.specs.declared.progress.TransferProgress.{TransferProgress}
@@ -28,7 +30,7 @@ use Rattle.tx_transfer.specs.Steps.{Begun, Left}
 use Rattle.tx_workload.specs.declared.reply.LineAnswer.{LineAnswer}
 use Rattle.tx_workload.specs.declared.reply.LineAnswer.TheVariants.{Plain, Ended}
 use Rattle.tx_workload.specs.declared.reply.LineReply.{LineReply}
-use Rattle.tx_workload.specs.Logs.{KeepsAnswer, Logged, answer_to}
+use Rattle.tx_workload.specs.Logs.{EndsOutOfOrder, KeepsAnswer, Logged, answer_to}
 use Rattle.tx_workload.specs.Steps.{Says}
 use Rattle.tx_run.specs.Transfers.{Ends, Finishes, HearsMore, Transfers}
 
@@ -111,6 +113,13 @@ fresh seat = known seat 4294967296 []
 abbrev pub known_at : Standing → Known
 known_at (free k) = k
 known_at (live s) = s.seat
+
+-- How far a session is said to be with which the play of these answers ends: an open transaction is
+-- so far, and the line of this number is its last and was out of order. Nothing may be said.
+abbrev pub IsStageOf : Standing → List LineReply → Option (ℕ × SessionStage) → Type 0
+IsStageOf last replies None = Unit {0}
+IsStageOf (free k) replies (Some told) = ⊥
+IsStageOf (live s) replies (Some told) = EndsOutOfOrder told.0 replies × (told.1 ≡ stage_of s.state)
 
 module _ (bounds : List Key) where
   -- its seat heard of others, and made no event
@@ -216,20 +225,23 @@ module _ (bounds : List Key) where
     pub kept : KeepsAnswer old m.number answer new
     pub ends : Ends bounds m p answer seat
 
-  -- what a log gained are the answers of a play from here, which led to where its seat knew this
-  pub record PlaysOut (source : Option (List ℕ)) (from : Where) (old new : Logged) (known : Option History)
-      : Type 0 where
+  -- what a log gained are the answers of a play from here, which led to where its session was so
+  -- far and its seat knew this
+  pub record PlaysOut (source : Option (List ℕ)) (from : Where) (old new : Logged) (stage : Option (ℕ × SessionStage))
+      (known : Option History) : Type 0 where
     pub more : List LineReply
     pub all : new.replies ≡ old.replies ++ more
     pub last : Standing
     pub plays : PlayedFrom source from more last
+    pub far : IsStageOf last new.replies stage
     pub knew : known ≡ Some (known_at last).events
 
   -- The lines of a session were played, one after another, from a seat of this number that knew
-  -- nothing and had 2^32 ticks; its replies are what that play says, and this is what its seat then
-  -- knew.
-  pub record SessionPlays (source : Option (List ℕ)) (seat : ℕ) (replies : List LineReply) (known : Option History)
-      : Type 0 where
+  -- nothing and had 2^32 ticks; its replies are what that play says, it was so far at last, and
+  -- this is what its seat then knew.
+  pub record SessionPlays (source : Option (List ℕ)) (seat : ℕ) (replies : List LineReply)
+      (stage : Option (ℕ × SessionStage)) (known : Option History) : Type 0 where
     pub last : Standing
     pub plays : Plays source (free (fresh seat)) replies last
+    pub far : IsStageOf last replies stage
     pub knew : known ≡ Some (known_at last).events

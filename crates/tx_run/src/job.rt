@@ -2,7 +2,7 @@
 //! reads, and then its writes.
 ghost use Rattle.std.specs.Prelude.{◌≡◌, ◌∷◌, map, is_some, [], None, Some, Ok, Err, true, false, IfErr, IfNone, IfOk, IfSome, OnErr, OnOk};
 ghost use Rattle.tx_run.specs.Jobs.{JobGoesOn, MayAnswer, Promises, WillPlay, job_lines, with_line};
-ghost use Rattle.tx_run.specs.Played.{Leads, Standing, WasMade, at, away, buffer_at, free, is_away, is_moving, known_at};
+ghost use Rattle.tx_run.specs.Played.{IsStageOf, Leads, Standing, WasMade, at, away, buffer_at, free, is_away, is_moving, known_at};
 ghost use Rattle.tx_client.specs.Calls.{HasHeard};
 ghost use Rattle.tx_core.specs.declared.event.Outcome.{Outcome};
 ghost use Rattle.tx_transaction.specs.Sessions.{finish_of};
@@ -59,8 +59,8 @@ pub(crate) struct ScriptJob<J: JournalId, L: Source, F: Families + Drop, R: Wait
     met: Vec<Slot>,
     collector: Collector,
     faulted: bool,
-    /// How far the session was, with the number of its line, where that was out of order.
-    stage: Option<(u64, SessionStage)>,
+    /// Whether its last line was to draw, commit or abort, and was out of order.
+    ends_early: bool,
 }
 
 impl<J: JournalId, L: Source, F: Families + Drop, R: Wait + Drop> Model for ScriptJob<J, L, F, R> {
@@ -122,7 +122,7 @@ impl<J: JournalId, L: Source, F: Families + Drop, R: Wait + Drop> ScriptJob<J, L
             met: Vec::new(alloc),
             collector,
             faulted: false,
-            stage: None,
+            ends_early: false,
         })
     }
 
@@ -196,19 +196,26 @@ impl<J: JournalId, L: Source, F: Families + Drop, R: Wait + Drop> ScriptJob<J, L
         self.report(number, plain);
     }
 
-    // Where a line is out of order that draws, commits or aborts, notes how far the session is.
-    fn note_stage(
-        &mut self,
-        number: u64,
-        session: &Session<J>,
-        step: &Step<&str>,
-        answer: &Result<PlainReply, Cause>,
-    )
+    // Notes whether a line is out of order that draws, commits or aborts.
+    fn note_end(&mut self, step: &Step<&str>, answer: &Result<PlainReply, Cause>)
         ensures { self.new ≡ self.old }
     {
-        if matches!(answer, Err(Cause::Order)) && ending_name(step).is_some() {
-            self.stage = Some((number, SessionStage::of(session.transaction())));
+        self.ends_early = matches!(answer, Err(Cause::Order)) && ending_name(step).is_some();
+    }
+
+    // How far the session is, with the number of its last line, where that was out of order and
+    // drew, committed or aborted.
+    fn stage(&self) -> Option<(u64, SessionStage)>
+        ensures { (s : Standing) → self.now.stands ≡ at s → IsStageOf s self.now.log.replies result }
+    {
+        let JobState::Live(session) = &self.state else {
+            return None;
+        };
+        if !self.ends_early {
+            return None;
         }
+        let number = self.log.out_of_order()?;
+        Some((number, SessionStage::of(session.transaction())))
     }
 
     // A fault of the script ends the session.
@@ -280,15 +287,21 @@ impl<J: JournalId, L: Source, F: Families + Drop, R: Wait + Drop> ScriptJob<J, L
         ensures promised { Promises self.old result }
         ensures plays { WillPlay J.bounds L.text self.old result }
     {
+        let stage = self.stage();
         let last = self.tell_last();
-        self.hand_out(last)
+        self.hand_out(stage, last)
     }
 
-    // Hands out its log, and what its seat knew at last.
-    fn hand_out(&mut self, last: Option<Told<J>>) -> JobOutput<J, L>
+    // Hands out its log, how far its session was, and what its seat knew at last.
+    fn hand_out(
+        &mut self,
+        stage: Option<(u64, SessionStage)>,
+        last: Option<Told<J>>,
+    ) -> JobOutput<J, L>
         requires { (self.old.left ≡ []) × (self.old.going ≡ None) }
         ensures number { result.number ≡ self.old.number }
         ensures log { result.log ≡ self.old.log }
+        ensures stage { result.stage ≡ stage }
         ensures last { result.last ≡ last }
         ensures promised { Promises self.old result }
     {
@@ -298,7 +311,7 @@ impl<J: JournalId, L: Source, F: Families + Drop, R: Wait + Drop> ScriptJob<J, L
             number: self.number,
             log,
             faulted: self.faulted,
-            stage: self.stage,
+            stage,
             collected: self.collector.dropped(),
             refusals: self.context.refusals(),
             last,

@@ -1,4 +1,8 @@
 //! What comes of a session of a run.
+ghost use Rattle.std.specs.Prelude.{◌≡◌, ◌⊎◌, ◌++◌};
+ghost use Rattle.std.specs.Option.{option_to_list};
+ghost use Rattle.tx_run.specs.Jobs.{IsSubsequence, stages_in};
+
 use std::alloc::Global;
 use std::marker::Model;
 use tx_journal::{JournalId, Told};
@@ -7,14 +11,15 @@ use tx_transfer::{Refusals, Source};
 use tx_workload::RunLog;
 
 /// What came of a session's lines. Contracts see its number, its log, whether a fault of the
-/// script ended it, and what its seat knew at last.
+/// script ended it, how far it was, and what its seat knew at last.
 #[derive(Drop)]
 pub(crate) struct JobOutput<J: JournalId, L: Source> {
     pub number: u32,
     pub log: RunLog<J, L>,
     /// Whether a fault of the script ended it.
     pub faulted: bool,
-    /// How far it was, with the number of its last line, where that was out of order.
+    /// How far it was, with the number of its last line, where that was out of order and drew,
+    /// committed or aborted.
     pub stage: Option<(u64, SessionStage)>,
     /// How many write records it collected.
     pub collected: u64,
@@ -29,7 +34,13 @@ impl<J: JournalId, L: Source> Model for JobOutput<J, L> {
 
     ghost Value = { Output };
 
-    ghost view = { λ o. record { number = o.number; log = o.log; faulted = o.faulted; last = o.last } };
+    ghost view = { λ o. record {
+      number = o.number;
+      log = o.log;
+      faulted = o.faulted;
+      stage = o.stage;
+      last = o.last;
+    } };
 }
 
 /// How many write records were collected.
@@ -50,17 +61,30 @@ pub(crate) fn count_refusals<J: JournalId, L: Source>(outputs: &[JobOutput<J, L>
     refusals
 }
 
-/// How far sessions were whose last line was out of order, each with the number of that line. One
-/// for which there is no memory is left out.
+// Adds how far a session was, where that is told, unless there is no memory for it.
+fn add_stage<J: JournalId, L: Source>(
+    stages: &mut Vec<(u64, SessionStage)>,
+    output: &JobOutput<J, L>,
+)
+    ensures { (stages.new.items ≡ stages.old.items)
+        ⊎ (stages.new.items ≡ stages.old.items ++ option_to_list output.now.stage) }
+{
+    if let Some(stage) = output.stage {
+        let _ = stages.push(stage);
+    }
+}
+
+/// How far sessions were of which that is told, each with the number of its last line, in their
+/// order. One for which there is no memory is left out.
 pub(crate) fn stages_of<J: JournalId, L: Source>(
     alloc: Global,
     outputs: &[JobOutput<J, L>],
-) -> Vec<(u64, SessionStage)> {
+) -> Vec<(u64, SessionStage)>
+    ensures { IsSubsequence result.items (stages_in outputs.now) }
+{
     let mut stages = Vec::new(alloc);
     for output in outputs {
-        if let Some(stage) = output.stage {
-            let _ = stages.push(stage);
-        }
+        add_stage(&mut stages, output);
     }
     stages
 }

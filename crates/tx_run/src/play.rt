@@ -3,7 +3,7 @@ ghost use Rattle.std.specs.Prelude.{◌≡◌, ◌+◌, ◌≤◌, ◌++◌, [],
 ghost use Rattle.std.specs.List.{list_any};
 ghost use Rattle.tx_workload.specs.Answers.{IsReply, has_fault, numbers_of};
 ghost use Rattle.tx_workload.specs.Outcomes.{TellsOutcomes};
-ghost use Rattle.tx_run.specs.Jobs.{AreFalling, AreFrom, AreGathered, ComesOf, IsOpened};
+ghost use Rattle.tx_run.specs.Jobs.{AreFalling, AreFrom, AreGathered, ComesOf, IsOpened, IsSubsequence, stages_in};
 ghost use Rattle.tx_run.specs.Played.{fresh};
 ghost use Rattle.tx_run.specs.Sums.{SumsBehind};
 ghost use Rattle.tx_workload.specs.LineNumbers.{numbers_in};
@@ -87,8 +87,9 @@ pub struct RunResult {
     pub replies: Replies,
     /// Whether a fault of the script ended a session.
     pub faulted: bool,
-    /// How far the sessions were whose last line was out of order, each with the number of that
-    /// line. One for which there was no memory is left out.
+    /// How far the sessions were whose last line was to draw, commit or abort and was out of order,
+    /// each with the number of that line, in the order of the sessions. One for which there was no
+    /// memory is left out.
     pub stages: Vec<(u64, SessionStage)>,
     /// How many write records were collected meanwhile, by collections that were not refused.
     pub collected: u64,
@@ -187,6 +188,7 @@ fn close<J: JournalId, L: Source, F: Families + Drop, R: Wait + Drop>(
     ensures gathered { IfOk result (λ played.
         AreGathered J.bounds L.text (numbers_of replies) played.seen.events played.replies outputs.items
         × (played.faulted ≡ list_any (λ o. o.faulted) outputs.items)) }
+    ensures stages { IfOk result (λ played. IsSubsequence played.stages.items (stages_in outputs.items)) }
     ensures total { IfOk result (λ played. TellsTotal played.seen played.replies played.total) }
     ensures sums { IfOk result (λ played. SumsBehind L.text played.seen played.replies played.total) }
 {
@@ -236,7 +238,7 @@ where
     ensures bounds { IfOk result (λ played. played.seen.bounds ≡ J.bounds) }
     ensures comes { IfOk result (λ played.
         ComesOf J.bounds L.text (opening_of J.bounds ++ map (λ seed. seed.number) script.seeds.items)
-        (numbers_in script.sessions.items) played.seen.events played.replies) }
+        (numbers_in script.sessions.items) played.seen.events played.replies played.stages.items) }
     ensures faulted { IfOk result (λ played. played.faulted ≡ has_fault played.replies) }
     ensures total { IfOk result (λ played. TellsTotal played.seen played.replies played.total) }
     ensures sums { IfOk result (λ played. SumsBehind L.text played.seen played.replies played.total) }
@@ -289,7 +291,7 @@ where
     ensures comes { IfOk result (λ played.
         ComesOf script.bounds.items L.text
         (opening_of script.bounds.items ++ map (λ seed. seed.number) script.seeds.items)
-        (numbers_in script.sessions.items) played.seen.events played.replies) }
+        (numbers_in script.sessions.items) played.seen.events played.replies played.stages.items) }
     ensures faulted { IfOk result (λ played. played.faulted ≡ has_fault played.replies) }
     ensures total { IfOk result (λ played. TellsTotal played.seen played.replies played.total) }
     ensures sums { IfOk result (λ played. SumsBehind L.text played.seen played.replies played.total) }

@@ -47,7 +47,7 @@ where
     ensures pairs { IfOk result (λ r. IfSome r.1 (λ played. All (TellsPair L.text) played.replies)) }
     ensures tells { IfOk result (λ r. IfSome r.1 (λ played. AllTell L.text played.seen played.replies)) }
     ensures comes { IfOk result (λ r. IfSome r.1
-        (λ played. ComesOfText L.text played.seen.bounds played.seen.events played.replies)) }
+        (λ played. ComesOfText L.text played.seen.bounds played.seen.events played.replies played.stages.items)) }
     ensures faulted { IfOk result (λ r. IfSome r.1 (λ played. played.faulted ≡ has_fault played.replies)) }
     ensures total { IfOk result (λ r. IfSome r.1 (λ played. TellsTotal played.seen played.replies played.total)) }
     ensures sums { IfOk result
@@ -89,7 +89,8 @@ where
 /// that its line says. Each other reply tells of what all sessions had seen, or of what a line of
 /// the same name before it entered; a seed that is told to be done was declared as its put alone
 /// and answered as committed. Where the script's bytes are known, seeds and sessions were played
-/// line by line, each line from what the one before it left, and each transfer by its own requests.
+/// line by line, each line from what the one before it left, and each transfer by its own requests;
+/// how far a session is said to be is so of the state in which its last line was out of order.
 /// The total is the sum of the balances that the one-step machine sees at one timestamp, at or
 /// above each commit that a line is told.
 pub fn run_script<F, M, G, R, B, W>(
@@ -115,7 +116,7 @@ where
         (λ r. IfSome r.1 (λ played. AllTell (B.remaining reader.old) played.seen played.replies)) }
     ensures comes { IfOk result
         (λ r. IfSome r.1 (λ played. ComesOfText (B.remaining reader.old) played.seen.bounds played.seen.events
-        played.replies)) }
+        played.replies played.stages.items)) }
     ensures faulted { IfOk result (λ r. IfSome r.1 (λ played. played.faulted ≡ has_fault played.replies)) }
     ensures total { IfOk result (λ r. IfSome r.1 (λ played. TellsTotal played.seen played.replies played.total)) }
     ensures sums { IfOk result

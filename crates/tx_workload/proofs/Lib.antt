@@ -4,6 +4,7 @@ pub mod OutcomeCounts
 pub mod Evidence
 pub mod ReaderStates
 pub mod LineOrder
+pub mod MetLocks
 pub mod SessionNames
 pub mod SeedAnswers
 pub mod Sources

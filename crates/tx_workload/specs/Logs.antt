@@ -1,7 +1,8 @@
 -- What stands behind the answers of one session.
-use Rattle.std.specs.Prelude.{◌≡◌, ◌≢◌, ℕ, [], ◌∷◌, ◌++◌, List, All, Bool, false, Option, Some}
+use Rattle.std.specs.Prelude.{◌≡◌, ◌≢◌, ℕ, [], ◌∷◌, ◌++◌, List, All, Bool, false, Option, Some, Err}
 use Rattle.std.specs.List.{AllPairs}
 use Rattle.tx_types.specs.declared.key.Key.{Key}
+use Rattle.tx_types.specs.declared.fault.Cause.TheVariants.{Order}
 use Rattle.tx_core.specs.declared.event.Outcome.{Outcome}
 use Rattle.tx_core.specs.declared.event.Event.TheVariants.{Answered}
 use Rattle.tx_core.specs.Histories.{History, Among, Begins, drawer}
@@ -47,6 +48,12 @@ answer_to number answer = record { number = number; answer = answer }
 abbrev pub KeepsAnswer : Logged → ℕ → LineAnswer → Logged → Type 0
 KeepsAnswer old number answer new =
     new.lost ≡ false → (old.lost ≡ false) × (new.replies ≡ old.replies ++ answer_to number answer ∷ [])
+
+-- the line of this number is the last that was answered, and it was told that its step is out of
+-- order
+abbrev pub EndsOutOfOrder : ℕ → List LineReply → Type 0
+EndsOutOfOrder number replies = (front : List LineReply)
+    × (replies ≡ front ++ answer_to number (Plain (Err Order)) ∷ [])
 
 -- some outcome of a line is kept, with these keys
 abbrev pub KeepsOutcome : Logged → ℕ → Option (Key × Key) → Logged → Type 0

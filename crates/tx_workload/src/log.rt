@@ -1,10 +1,10 @@
 //! What the lines of one session were answered, with what its session had seen.
-ghost use Rattle.std.specs.Prelude.{◌≡◌, ◌∷◌, ◌++◌, All, [], None, if◌then◌else◌, true, false, IfErr, IfOk, OnOk, OnErr};
+ghost use Rattle.std.specs.Prelude.{◌≡◌, ◌∷◌, ◌++◌, All, [], None, if◌then◌else◌, true, false, IfErr, IfOk, IfSome, OnOk, OnErr};
 ghost use Rattle.tx_client.specs.Calls.{HasHeard};
 ghost use Rattle.tx_transaction.specs.Sessions.{finish_of};
 ghost use Rattle.tx_core.specs.declared.event.Outcome.{Outcome};
 ghost use Rattle.tx_core.specs.Histories.{Begins};
-ghost use Rattle.tx_workload.specs.Logs.{CanTell, HasFinished, IsAnswered, KeepsAnswer, KeepsOutcome, TellsBy, TellsNone, answer_to};
+ghost use Rattle.tx_workload.specs.Logs.{CanTell, EndsOutOfOrder, HasFinished, IsAnswered, KeepsAnswer, KeepsOutcome, TellsBy, TellsNone, answer_to};
 ghost use Rattle.tx_workload.specs.declared.reply.LineAnswer.TheVariants.{Plain, Ended};
 ghost use Rattle.tx_transfer.specs.Sources.{HasPair};
 ghost use Rattle.tx_workload.specs.Pairs.{TellsPair};
@@ -82,6 +82,18 @@ impl<J: JournalId, L: Source> RunLog<J, L> {
         let answer = LineAnswer::Plain(answer);
         let kept = add(&mut self.replies, LineReply { number, answer });
         self.lost |= !kept;
+    }
+
+    /// The number of the line that was answered last, where it was told that its step is out of
+    /// order.
+    pub fn out_of_order(&self) -> Option<u64>
+        ensures { IfSome result (λ number. EndsOutOfOrder number self.now.replies) }
+    {
+        let last = self.replies.last()?;
+        match last.answer {
+            LineAnswer::Plain(Err(Cause::Order)) => Some(last.number),
+            _ => None,
+        }
     }
 
     // Knows what its session has seen since.

@@ -1,5 +1,5 @@
 //! The seeds of a run, in the order of their lines.
-ghost use Rattle.std.specs.Prelude.{◌≡◌, ◌++◌, map, All, Ok, IfOk, OnOk};
+ghost use Rattle.std.specs.Prelude.{◌≡◌, ◌++◌, map, All, Ok, IfErr, IfOk, OnOk};
 ghost use Rattle.tx_core.specs.Histories.{Begins};
 ghost use Rattle.tx_workload.specs.Answers.{IsReply, numbers_of};
 ghost use Rattle.tx_workload.specs.Logs.{answer_to};
@@ -41,7 +41,8 @@ fn play<J: JournalId, L: Source, F: Families + Drop, R: Wait + Drop>(
     (seat, PlainReply::new(tx_reply::ScriptReply::OutOfMemory))
 }
 
-/// Makes the seeds in the order of their lines, and keeps their answers.
+/// Makes the seeds in the order of their lines, and keeps their answers. `Memory` where there is no
+/// room for one.
 pub fn play_seeds<J: JournalId, L: Source, F: Families + Drop, R: Wait + Drop>(
     mut seat: Seat<J>,
     context: &mut Context<J, F, R>,
@@ -56,6 +57,7 @@ pub fn play_seeds<J: JournalId, L: Source, F: Families + Drop, R: Wait + Drop>(
     ensures quiet { OnOk result (All (λ s. IsReply s.answer) replies.new.items) }
     ensures each { OnOk result
         (numbers_of replies.new.items ≡ numbers_of replies.old.items ++ map (λ line. line.number) seeds.now) }
+    ensures err { IfErr result (λ e. e ≡ Broken.Memory) }
 {
     for line in seeds {
         let (next, plain) = play(seat, context, line);

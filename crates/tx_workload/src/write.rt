@@ -1,5 +1,5 @@
 //! Writing what was played.
-ghost use Rattle.std.specs.Prelude.{◌≡◌, ◌++◌, map, All, IfOk, OnOk, OnErr};
+ghost use Rattle.std.specs.Prelude.{◌≡◌, ◌≢◌, ◌++◌, map, All, IfErr, IfOk, OnOk, OnErr};
 ghost use Rattle.std.specs.List.{flat_map};
 ghost use Rattle.std.specs.Io.KnownBytes.{Appends};
 ghost use Rattle.tx_text.specs.Faults.{fault_words};
@@ -56,6 +56,7 @@ fn write_lines<W: Write>(
     ensures part { OnErr result
         (AppendsPart (W.contents writer.old) (W.contents writer.new)
         (flat_map line_of (map (λ line. line.1.now) lines.now))) }
+    ensures err { IfErr result (λ e. e ≢ Broken.Input) }
 {
     let mut text = Vec::new(alloc);
     'lines: for (_, reply) in lines {
@@ -77,6 +78,7 @@ fn write_sums<W: Write>(
         (Appends (W.contents writer.old) (W.contents writer.new) (outcomes_text counts ++ total_text total)) }
     ensures part { OnErr result
         (AppendsPart (W.contents writer.old) (W.contents writer.new) (outcomes_text counts ++ total_text total)) }
+    ensures err { IfErr result (λ e. e ≢ Broken.Input) }
 {
     let mut text = Vec::new(alloc);
     put_outcomes(&mut text, counts)?;
@@ -86,7 +88,7 @@ fn write_sums<W: Write>(
 }
 
 /// Writes the answers in the order of their lines, then the counts of the outcomes, and the sum
-/// of all balances.
+/// of all balances. It fails by its writer or for want of memory, never by `Input`.
 pub fn write_all<W: Write>(
     alloc: Global,
     writer: &mut W,
@@ -97,13 +99,14 @@ pub fn write_all<W: Write>(
         (WritesText (W.contents writer.old) (W.contents writer.new) (IsTextOf replies.now total)) }
     ensures part { OnErr result
         (WritesPart (W.contents writer.old) (W.contents writer.new) (IsTextOf replies.now total)) }
+    ensures err { IfErr result (λ e. e ≢ Broken.Input) }
 {
     let lines = in_order(alloc, replies)?;
     write_lines(alloc, writer, lines.as_slice())?;
     write_sums(alloc, writer, counts_of(lines.as_slice()), total)
 }
 
-/// Writes the fault of a script that was not played.
+/// Writes the fault of a script that was not played. It fails as `write_all` does.
 pub fn write_fault<W: Write>(
     alloc: Global,
     writer: &mut W,
@@ -114,6 +117,7 @@ pub fn write_fault<W: Write>(
         (Appends (W.contents writer.old) (W.contents writer.new) (reply_text (number, fault_words cause))) }
     ensures part { OnErr result
         (AppendsPart (W.contents writer.old) (W.contents writer.new) (reply_text (number, fault_words cause))) }
+    ensures err { IfErr result (λ e. e ≢ Broken.Input) }
 {
     let mut text = Vec::new(alloc);
     put_fault(&mut text, number, cause)?;

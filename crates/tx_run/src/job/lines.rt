@@ -146,7 +146,7 @@ impl<J: JournalId, L: Source, F: Families + Drop, R: Wait + Drop> ScriptJob<J, L
         ensures plays { PlaysOne J.bounds L.text (live session.value) number self.old.log self.new.log self.new.stands }
     {
         let result = self.result_of(number, &mut session, step);
-        self.note_stage(number, &session, &step, &result);
+        self.note_end(&step, &result);
         self.hear(&mut session);
         self.set_state(JobState::Live(session));
         self.on_answer(number, result);

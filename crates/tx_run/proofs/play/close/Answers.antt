@@ -2,7 +2,7 @@ use Rattle.std.proofs.Common.{All, List, sym, subst, ◌∙◌}
 use Rattle.tx_types.specs.declared.key.Key.{Key}
 use Rattle.tx_core.specs.Histories.{History}
 use Rattle.tx_workload.specs.Answers.{numbers_of}
-use Rattle.tx_run.specs.Jobs.{AreGathered}
+use Rattle.tx_run.specs.Jobs.{AreGathered, IsSubsequence, Output, stages_in}
 use Rattle.tx_workload.specs.Tells.{TellsLine}
 use Rattle.tx_journal.specs.Known.{Seen}
 use Rattle.tx_run.specs.Sums.{SumsBehind}
@@ -42,3 +42,8 @@ returns-clause-sums g c =
     subst (λ (s : Seen). SumsBehind g.L.Source.text s xs total)
     (sym (seen_is c.unnamed.result bounds c.in_ok-total.seat.events c.unnamed.ensures.0 told))
     c.in_ok-total.ensures.sums
+
+pub returns-clause-stages : goal.returns-clause-stages
+returns-clause-stages g c =
+    subst (λ (l : List Output). IsSubsequence c.stages_of-stages.result.items (stages_in l)) c.as_slice-3.ensures.value
+    c.stages_of-stages.ensures

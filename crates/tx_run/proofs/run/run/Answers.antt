@@ -17,9 +17,10 @@ returns-clause-comes g c =
     let source = g.L.Source.text in
     let seeds = map (λ seed. seed.number) script.seeds.items in
     let lines = numbers_in script.sessions.items in
-    comes_of_text source lines seeds script.bounds.items played.seen.bounds played.seen.events played.replies kept
+    comes_of_text source lines seeds script.bounds.items played.seen.bounds played.seen.events played.replies
+    played.stages.items kept
     (subst (λ (b : List Key). ComesOf b source (opening_of script.bounds.items ++ seeds) lines played.seen.events
-    played.replies) (sym c.in_ok-played.ensures.bounds) c.in_ok-played.ensures.comes)
+    played.replies played.stages.items) (sym c.in_ok-played.ensures.bounds) c.in_ok-played.ensures.comes)
 
 pub play_script-requires-clause-own : goal.play_script-requires-clause-own
 play_script-requires-clause-own g c κs within =

@@ -90,6 +90,7 @@ returns-clause-joins g c =
       number = c.output.inside.number;
       log = log;
       faulted = c.output.inside.faulted;
+      stage = c.output.inside.stage;
       last = c.output.inside.last;
     } in
     let mid = c.learn_last.new.seat in

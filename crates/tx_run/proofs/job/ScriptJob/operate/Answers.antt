@@ -21,7 +21,7 @@ pub on_answer-requires-clause-may : goal.on_answer-requires-clause-may
 on_answer-requires-clause-may g c = (
   ap (λ (w : Working). w.going) c.set_state.ensures,
   ap (λ (w : Working). w.faulted) c.set_state.ensures ∙ ap (λ (w : Working). w.faulted) c.hear.ensures.job
-      ∙ ap (λ (w : Working). w.faulted) c.note_stage.ensures
+      ∙ ap (λ (w : Working). w.faulted) c.note_end.ensures
       ∙ ap (λ (w : Working). w.faulted) c.result_of-result.ensures.job ∙ c.requires.may.1,
 )
 
@@ -69,7 +69,7 @@ returns-clause-plays g c =
     (c.hear.ensures.state, _, c.hear.ensures.heard) in
     let told = c.hear.ensures.job ∙ ap (λ (w : Working). record w {
       log = record w.log { told = c.hear.new.self.log.told };
-    }) (c.note_stage.ensures ∙ c.result_of-result.ensures.job) in
+    }) (c.note_end.ensures ∙ c.result_of-result.ensures.job) in
     let same = ap (λ (w : Working). w.log) c.set_state.ensures ∙ ap (λ (w : Working). w.log) told in record {
       answer = Plain answer;
       to = live now;
@@ -101,5 +101,5 @@ set_state-requires-clause-own g c =
     c.result_of-result.ensures.own in
     let entered = later_entered source job line c.args.self.now.left es c.requires.later own in
     subst (λ (w : Working). AreEntered source w.number w.left es) (sym c.hear.ensures.job)
-    (subst (λ (w : Working). AreEntered source w.number w.left es) (sym c.note_stage.ensures)
+    (subst (λ (w : Working). AreEntered source w.number w.left es) (sym c.note_end.ensures)
     (subst (λ (w : Working). AreEntered source w.number w.left es) (sym c.result_of-result.ensures.job) entered))

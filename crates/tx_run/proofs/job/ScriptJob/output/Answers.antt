@@ -1,5 +1,6 @@
-use Rattle.std.proofs.Common.{ap, ◌∙◌}
+use Rattle.std.proofs.Common.{ap, sym, subst, ◌∙◌}
 use Rattle.tx_run.specs.Jobs.{Working}
+use Rattle.tx_run.specs.Played.{IsStageOf}
 use Rattle.tx_run.proofs.AnsweredLines.{promised_on}
 use Rattle.tx_run.proofs.Leads.{ends_out, stands_so}
 use Rattle.tx_run.proofs.job.ScriptJob.output.Goals as goal
@@ -16,7 +17,9 @@ returns-clause-plays g c =
     let old = c.args.self.now in record {
       plays = λ known here unlost.
           let s = stands_so bounds source old.stands here c.requires.still in
-          ends_out bounds source old.stands s.0 old.log c.hand_out.result.log c.hand_out.result.last s.1
+          ends_out bounds source old.stands s.0 old.log c.hand_out.result.log c.hand_out.result.stage
+          c.hand_out.result.last s.1
           (c.hand_out.ensures.log ∙ ap (λ (w : Working). w.log) c.tell_last-last.ensures.job)
+          (subst (IsStageOf s.0 old.log.replies) (sym c.hand_out.ensures.stage) (c.stage-stage.ensures s.0 s.1))
           (c.hand_out.ensures.last ∙ c.tell_last-last.ensures.knows s.0 s.1);
     }
