@@ -132,9 +132,9 @@ if_ok (Ok x) then_so p = then_so x p
 if_ok (Err e) then_so p = tt
 
 -- what follows of two things that hold of a value, where there is one
-pub both_ok : {T E : Type 0} {P Q : T → Type 0} (r : Result T E) → IfOk r P → IfOk r Q → IfOk r (λ x. P x × Q x)
-both_ok (Ok x) p q = (p, q)
-both_ok (Err e) p q = tt
+pub both_ok : {T E : Type 0} (P Q : T → Type 0) (r : Result T E) → IfOk r P → IfOk r Q → IfOk r (λ x. P x × Q x)
+both_ok P Q (Ok x) p q = (p, q)
+both_ok P Q (Err e) p q = tt
 
 -- seats that were dealt in their order have the numbers from the first one's on, and know nothing
 pub from_dealt : (first : ℕ) (seats : List Known)

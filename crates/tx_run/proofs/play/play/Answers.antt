@@ -17,7 +17,7 @@ returns-clause-comes g c =
       c.in-Ok-work.ensures.falling,
       c.in-Ok-work.ensures.played,
       was.1,
-    )) (both_ok c.close.result c.close.ensures.gathered c.close.ensures.stages)
+    )) (both_ok _ _ c.close.result c.close.ensures.gathered c.close.ensures.stages)
 
 pub returns-clause-faulted : goal.returns-clause-faulted
 returns-clause-faulted g c =
