@@ -170,7 +170,7 @@ const WHY = {
 };
 function found(n) {
   const k = first(n), at = asker(n).start;
-  if (k === undefined) return ['It is in the session\u2019s own buffer, or of no key here.'];
+  if (k === undefined) return ['Nothing was sent: the session\u2019s own buffer says it.'];
   const [lock, records] = moment(n).keys[k];
   const seen = records.find(r => /put|delete/.test(r[1]) && r[0] <= at);
   const above = records.filter(r => r[1] === 'put' && r[0] > at).pop();

@@ -5,7 +5,7 @@ pub(crate) static HEAD: &str = r#"<!doctype html>
 <html lang="en">
 <head>
 <meta charset="utf-8">
-<meta http-equiv="Content-Security-Policy" content="default-src 'none'; style-src 'sha256-PuExGv+jw0X7AKaE2FG9QNgF8W3XQNc3dHpuTDINcf8=' 'sha256-MA+W6U+o5qRuIqD1JZKn049mc5Z2wQwku8N3XNYL6P8='; script-src 'sha256-Kdte/3FOMtQmOKWbm2aQdZDcs5R51JAtIe6Jh29l48s='; base-uri 'none'; form-action 'none'">
+<meta http-equiv="Content-Security-Policy" content="default-src 'none'; style-src 'sha256-PuExGv+jw0X7AKaE2FG9QNgF8W3XQNc3dHpuTDINcf8=' 'sha256-MA+W6U+o5qRuIqD1JZKn049mc5Z2wQwku8N3XNYL6P8='; script-src 'sha256-ERguBnXGNneO+YF5s0JYqyPAMVKePEkc89qprTl5ytw='; base-uri 'none'; form-action 'none'">
 <meta name="referrer" content="no-referrer">
 <meta name="viewport" content="width=device-width, initial-scale=1">
 <title>The run of a script</title>
