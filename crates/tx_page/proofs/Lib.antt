@@ -1,2 +1,2 @@
 -- Lines of a page, one after another.
-pub mod Lines
+pub mod Told

@@ -1,6 +1,6 @@
 //! The page of a film.
 ghost use Rattle.std.specs.Prelude.{◌≡◌, map, IfOk};
-ghost use Rattle.tx_html.specs.declared.page.PageParts.{PageParts};
+ghost use Rattle.tx_html.specs.declared.page.PageFrame.{PageFrame};
 ghost use Rattle.tx_html.specs.Pages.{page_text};
 ghost use Rattle.tx_page.specs.Shown.{PageOf};
 

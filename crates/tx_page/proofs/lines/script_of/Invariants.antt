@@ -1,6 +1,6 @@
 use Rattle.std.proofs.Common.{◌≡◌, map, take}
 use Rattle.tx_page.specs.Shown.{script_text}
-use Rattle.tx_page.proofs.Lines.{now}
+use Rattle.tx_page.proofs.Told.{now}
 use Rattle.tx_page.proofs.lines.script_of.Given as goal
 
 abbrev pub invariant-loop-line : goal.invariant-loop-line
