@@ -1,4 +1,4 @@
-use Rattle.std.proofs.Common.{◌++◌, [], ℕ, List, Bor, map, take, take_all, get_or, ap, ◌∙◌, arith}
+use Rattle.std.proofs.Common.{◌++◌, [], ℕ, List, Bor, map, take_all, get_or, ap, ◌∙◌, arith}
 use Rattle.tx_page.specs.Shown.{quoted_line, script_text}
 use Rattle.tx_page.proofs.Told.{now, line_more}
 use Rattle.tx_page.proofs.lines.script_of.Goals as goal
