@@ -73,6 +73,8 @@ impl CommandTask {
 pub struct ExplainOptions {
     /// Whether as a drawing, in place of text.
     pub svg: bool,
+    /// Whether as a page, in place of text.
+    pub html: bool,
     /// Whether with the machine's steps.
     pub machine: bool,
 }
@@ -137,6 +139,7 @@ fn task_of(name: &str, asked: &ArgMatches<'_>) -> CommandTask {
         "reduce" => CommandTask::Reduce,
         "explain" => CommandTask::Explain(ExplainOptions {
             svg: asked.get_flag("svg"),
+            html: asked.get_flag("html"),
             machine: asked.get_flag("machine"),
         }),
         _ if asked.get_flag("all") => CommandTask::CheckAll(asked.get_flag("why")),
@@ -256,14 +259,21 @@ fn simulate<'a>(alloc: Global) -> Result<Command<'a>, AllocError> {
         .arg(file(alloc))
 }
 
+// A page of a run.
+fn page<'a>(alloc: Global) -> Result<Arg<'a>, AllocError> {
+    let help = "Writes a page in place of text: the drawing, and what stands at each line, by keys";
+    flag(alloc, "html", help).conflicts_with("svg")
+}
+
 fn explain<'a>(alloc: Global) -> Result<Command<'a>, AllocError> {
     let svg = "Writes a drawing in place of text, an SVG: time goes down, requests are arrows";
     let machine =
         "Shows with each line the machine's steps that it made, as where a commit happened";
-    Command::new(alloc, "explain")
+    let command = Command::new(alloc, "explain")
         .about(help::EXPLAIN_ABOUT)
         .after_help(help::EXPLAIN_HELP)
-        .arg(flag(alloc, "svg", svg))?
+        .arg(flag(alloc, "svg", svg))?;
+    with(command, page(alloc))?
         .arg(flag(alloc, "machine", machine))?
         .arg(comments(alloc))?
         .arg(cells_option(alloc))?

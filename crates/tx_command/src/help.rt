@@ -90,14 +90,16 @@ pub(crate) static EXPLAIN_HELP: &str =
     r#"A session is a column, a step a line. Beside each step and its reply stands what
 changed of each key: its lock, and write records that came (+) and went (-). A
 refusal has its reason on a line of its own. With --machine a line that made
-steps of the machine has these below it, up to a fault.
-docs/EXPLAIN.md has all forms.
+steps of the machine has these below it, up to a fault. With --html the run is a
+page for a browser, which one steps through. docs/EXPLAIN.md has all forms.
 
 Examples:
   txkv explain push.script
       A reader that need not wait, step by step
   txkv explain --svg push.script > push.svg
       The same as a drawing
+  txkv explain --html push.script > push.html
+      The same as a page: arrow keys step, p hides what comes
   txkv explain --machine falls_back.script
       The line at which each transaction was declared and decided"#;
 

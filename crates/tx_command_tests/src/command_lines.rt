@@ -20,7 +20,7 @@ pub(crate) fn words_of(alloc: Global, line: &str) -> Result<Vec<String>, Fail> {
 }
 
 // Command lines, the tasks that they ask for, and the files that those read.
-static JOBS: [(&str, CommandTask, Option<&str>); 22] = [
+static JOBS: [(&str, CommandTask, Option<&str>); 23] = [
     ("simulate", CommandTask::Simulate, None),
     ("simulate -", CommandTask::Simulate, None),
     ("simulate a.script", CommandTask::Simulate, Some("a.script")),
@@ -46,6 +46,7 @@ static JOBS: [(&str, CommandTask, Option<&str>); 22] = [
         "explain a.script",
         CommandTask::Explain(ExplainOptions {
             svg: false,
+            html: false,
             machine: false,
         }),
         Some("a.script"),
@@ -54,6 +55,7 @@ static JOBS: [(&str, CommandTask, Option<&str>); 22] = [
         "explain --svg",
         CommandTask::Explain(ExplainOptions {
             svg: true,
+            html: false,
             machine: false,
         }),
         None,
@@ -62,9 +64,19 @@ static JOBS: [(&str, CommandTask, Option<&str>); 22] = [
         "explain --machine --svg",
         CommandTask::Explain(ExplainOptions {
             svg: true,
+            html: false,
             machine: true,
         }),
         None,
+    ),
+    (
+        "explain --html a.script",
+        CommandTask::Explain(ExplainOptions {
+            svg: false,
+            html: true,
+            machine: false,
+        }),
+        Some("a.script"),
     ),
     ("check", CommandTask::Check, None),
     ("check dir/a.trace", CommandTask::Check, Some("dir/a.trace")),

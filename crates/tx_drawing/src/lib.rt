@@ -11,3 +11,4 @@ mod markup;
 mod rows;
 
 pub use drawing::svg_of;
+pub use markup::put_text;

@@ -69,8 +69,8 @@ fn put_character(out: &mut String, character: char) -> Result<(), AllocError> {
     }
 }
 
-/// Appends text.
-pub(crate) fn put_text(out: &mut String, text: &str) -> Result<(), AllocError> {
+/// Appends text, so that it ends no element and no attribute.
+pub fn put_text(out: &mut String, text: &str) -> Result<(), AllocError> {
     for character in text.chars() {
         put_character(out, character)?;
     }

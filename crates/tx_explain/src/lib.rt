@@ -1,5 +1,5 @@
 //! A script's run, shown as people draw it: `explain` plays a script as `simulate` does, and writes
-//! the picture of the film of that play (tx_film).
+//! the picture of the film of that play (tx_film): text, a drawing, or a page.
 #![tactic(auto)]
 
 mod script;

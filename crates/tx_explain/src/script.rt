@@ -1,14 +1,15 @@
 //! A script from its first byte to the picture of its run.
-ghost use Rattle.std.specs.Prelude.{◌≡◌, ◌≢◌, IfOk, IfErr, IfSome};
+ghost use Rattle.std.specs.Prelude.{◌≡◌, ◌≢◌, map, IfOk, IfErr, IfSome};
 ghost use Rattle.std.specs.Io.KnownBytes.{Appends, Keeps};
 ghost use Rattle.tx_text.specs.Lines.{lines_of as lines_in};
-ghost use Rattle.tx_explain.specs.Explained.{Explains};
+ghost use Rattle.tx_explain.specs.Explained.{Shows, Explains};
 
 use std::alloc::{AllocError, Global};
 use std::io::{BufRead, ErrorKind, Write};
 use tx_cells::{Families, Makes};
 use tx_drawing::svg_of;
 use tx_film::{Film, film_lines, keys_of, lines_of};
+use tx_page::page_of;
 use tx_picture::text_of;
 use tx_script::{Broken, End, SessionStage};
 use tx_sheet::sheet_of;
@@ -22,13 +23,15 @@ pub enum PictureForm {
     Text,
     /// An SVG.
     Drawing,
+    /// An HTML page, with the machine's steps.
+    Page,
 }
 
 /// What a picture shows, and how.
 #[derive(Clone, Copy, Debug, PartialEq, Eq)]
 pub struct PictureOptions {
     pub form: PictureForm,
-    /// Whether with the machine's steps, each at the line that made it.
+    /// Whether with the machine's steps, each at the line that made it. A page has them always.
     pub machine: bool,
 }
 
@@ -61,6 +64,22 @@ fn read_all<R: BufRead>(alloc: Global, reader: &mut R) -> Result<Vec<u8>, Broken
     }
 }
 
+// The text, or the drawing, of a script that was played, by its film.
+fn drawn(
+    alloc: Global,
+    options: PictureOptions,
+    keys: &[Key],
+    lines: &[&[u8]],
+    film: &Film,
+) -> Result<Vec<u8>, Broken> {
+    let sheet = sheet_of(alloc, keys, lines, film, options.machine)?;
+    if options.form == PictureForm::Drawing {
+        Ok(svg_of(alloc, &sheet)?.into_bytes())
+    } else {
+        Ok(text_of(alloc, &sheet)?.into_bytes())
+    }
+}
+
 // The picture of a script that was played, by its film.
 fn picture(
     alloc: Global,
@@ -68,11 +87,12 @@ fn picture(
     keys: &[Key],
     lines: &[&[u8]],
     film: &Film,
-) -> Result<String, Broken> {
-    let sheet = sheet_of(alloc, keys, lines, film, options.machine)?;
+) -> Result<Vec<u8>, Broken>
+    ensures { IfOk result (λ text. Shows options.form (map (λ line. line.now) lines.now) film.now text.items) }
+{
     match options.form {
-        PictureForm::Text => Ok(text_of(alloc, &sheet)?),
-        PictureForm::Drawing => Ok(svg_of(alloc, &sheet)?),
+        PictureForm::Page => page_of(alloc, keys, lines, film),
+        PictureForm::Text | PictureForm::Drawing => drawn(alloc, options, keys, lines, film),
     }
 }
 
@@ -120,9 +140,9 @@ pub fn explain<F: Families + Drop, M: Makes<F>, R: BufRead, W: Write>(
     writer: &mut W,
     stop: &mut Option<ScriptStop>,
 ) -> Result<End, Broken>
-    // Not broken off, it has written a text of the play.
+    // Not broken off, it has written a text of the play; a page of just its film.
     ensures ends { IfOk result (λ end. IfSome (R.remaining reader.old)
-        (λ input. Explains (lines_in input) (W.contents writer.old) (W.contents writer.new) end)) }
+        (λ input. Explains options.form (lines_in input) (W.contents writer.old) (W.contents writer.new) end)) }
     // Broken off by anything but a write, it has written nothing.
     ensures breaks { IfErr result (λ why. why ≢ Broken.Output → Keeps (W.contents writer.old) (W.contents writer.new)) }
 {
@@ -135,6 +155,6 @@ pub fn explain<F: Families + Drop, M: Makes<F>, R: BufRead, W: Write>(
     if end == End::Faulted {
         *stop = stop_of(alloc, lines.as_slice(), &film).unwrap_or(None);
     }
-    write_all(writer, shown.as_bytes())?;
+    write_all(writer, shown.as_slice())?;
     Ok(end)
 }

@@ -9,6 +9,7 @@ ghost use Rattle.tx_film.specs.Films.{Films};
 ghost use Rattle.tx_film.specs.Filmed.{Counted, HasFilmed, StopsAt, Ended, Stands};
 
 use crate::frame::{Film, Frame, KeyShown};
+use crate::said::session_named;
 use std::alloc::{AllocError, Global};
 use std::marker::Brand;
 use tx_cells::{Families, Makes, make_families};
@@ -17,7 +18,7 @@ use tx_journal::{JournalId, Opened};
 use tx_reply::ScriptReply;
 use tx_script::{Player, SessionStage, bounds_in};
 use tx_steps::{Delivery, Line, Program, Step};
-use tx_text::{Broken, End, Parts};
+use tx_text::{Broken, End, Parts, put_text};
 use tx_trace::Taking;
 use tx_types::limits::MAX_LIVE_SESSIONS;
 use tx_types::{Cause, Key};
@@ -161,6 +162,36 @@ fn touched_since<J: JournalId, F: Families + Drop>(
     Ok(places_of(alloc, bounds, keys, came)?)
 }
 
+// The line by which a session of this name would draw.
+fn draw_by(alloc: Global, name: &str) -> Result<Vec<u8>, AllocError> {
+    let mut line = Vec::new(alloc);
+    line.extend_from_slice(b"[\"draw\"")?;
+    put_text(&mut line, name.as_bytes())?;
+    line.extend_from_slice(b"]")?;
+    Ok(line)
+}
+
+// How far the session is of the line that was played, where that is live: were it to draw next.
+fn stage_then<J: JournalId, F: Families + Drop>(
+    alloc: Global,
+    player: &Player<J, F>,
+    line: &[u8],
+) -> Result<Option<SessionStage>, Broken>
+    requires { IsPlayer J.bounds player.now }
+{
+    let mut parts = Parts::new();
+    let Ok(said) = Line::read(alloc, 1, line, &mut parts)? else {
+        return Ok(None);
+    };
+    let Some(step) = said.step(Program::Simulate) else {
+        return Ok(None);
+    };
+    match session_named(&step) {
+        Some(name) => player.stage_at(alloc, draw_by(alloc, name)?.as_slice()),
+        None => Ok(None),
+    }
+}
+
 // What is noted of the line that was played, before which so many requests had been taken.
 fn frame_of<J: JournalId, F: Families + Drop>(
     alloc: Global,
@@ -181,12 +212,14 @@ fn frame_of<J: JournalId, F: Families + Drop>(
     let places = touched_since(alloc, player, bounds, keys, before)?;
     let keys = show_keys(alloc, player, keys, places.as_slice())?;
     let held = held_by(alloc, player, line, &reply)?;
+    let stage = stage_then(alloc, player, line)?;
     Ok(Frame {
         reply: Ok(reply),
         takings,
         steps,
         keys,
         held,
+        stage,
     })
 }
 
@@ -216,6 +249,7 @@ fn fault_frame(alloc: Global, takings: usize, steps: usize, cause: Cause) -> Fra
         steps,
         keys: Vec::new(alloc),
         held: None,
+        stage: None,
     }
 }
 

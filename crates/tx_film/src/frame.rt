@@ -33,6 +33,8 @@ pub struct Frame {
     pub keys: Vec<KeyShown>,
     /// What the request asks that it holds on its way, where it holds one.
     pub held: Option<Body>,
+    /// How far its session is then, where that is live.
+    pub stage: Option<SessionStage>,
 }
 
 /// What the lines of a script did that was played, one after another, up to a fault. Contracts see
@@ -94,8 +96,17 @@ impl Film {
     }
 
     /// A frame for each line that was played.
-    pub fn frames(&self) -> &[Frame] {
+    pub fn frames(&self) -> &[Frame]
+        ensures { result.now ≡ self.now.frames }
+    {
         self.frames.as_slice()
+    }
+
+    /// All steps of the machine, oldest first.
+    pub fn all_steps(&self) -> &[Step]
+        ensures { reverse result.now ≡ self.now.steps }
+    {
+        self.trace.steps()
     }
 
     // How many requests had been taken, and how many steps there were, before the line at this

@@ -1,6 +1,7 @@
 //! A script's run as a film: while it is played, what each line did. Of each line the reply, the
 //! requests that regions took and what they answered, what then stands on the keys to which they
-//! went, the request that it holds on its way, and the steps of the machine that came with it.
+//! went, the request that it holds on its way, how far its session then is, and the steps of the
+//! machine that came with it.
 #![tactic(auto)]
 
 mod film;
@@ -13,4 +14,4 @@ pub use film::film_lines;
 pub use frame::{Film, Frame, KeyShown};
 pub use keys::keys_of;
 pub use lines::lines_of;
-pub use said::key_named;
+pub use said::{key_named, session_named};

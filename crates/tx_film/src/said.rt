@@ -1,4 +1,4 @@
-//! The key that a step names.
+//! The key and the session that a step names.
 ghost use Rattle.std.specs.Prelude.{◌≡◌, option_map};
 ghost use Rattle.tx_steps.specs.Steps.{asked, bytes_of};
 ghost use Rattle.tx_film.specs.Lines.{named_by};
@@ -14,6 +14,14 @@ pub fn key_named<'a>(step: &Step<&'a str>) -> Option<&'a str>
             Some(key)
         }
         Step::Send(_, Call::Get(key), _) | Step::Read(key, _) | Step::Versions(key) => Some(key),
+        _ => None,
+    }
+}
+
+/// The session of a step, where it is one of a session.
+pub fn session_named<'a>(step: &Step<&'a str>) -> Option<&'a str> {
+    match *step {
+        Step::Begin(name) | Step::Act(name, _) | Step::Send(name, _, _) => Some(name),
         _ => None,
     }
 }

@@ -81,7 +81,7 @@ fn put_change(out: &mut String, key: &str, change: &Change) -> Result<(), AllocE
 }
 
 /// What changed of keys, in words.
-pub(crate) fn words_of(
+pub fn changed_words(
     alloc: Global,
     keys: &[KeyColumn],
     changes: &[Change],

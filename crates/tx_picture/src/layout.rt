@@ -1,5 +1,5 @@
 //! A sheet as text.
-use crate::change::words_of;
+use crate::change::changed_words;
 use std::alloc::{AllocError, Global};
 use tx_sheet::{KeyColumn, Row, Sending, Sheet, places, put_number, shown};
 
@@ -21,8 +21,8 @@ fn put_spaces(out: &mut String, count: usize) -> Result<(), AllocError> {
     Ok(())
 }
 
-// Appends how a request was sent.
-fn put_sending(out: &mut String, row: &Row) -> Result<(), AllocError> {
+/// Appends how a request was sent, where that says more than the step.
+pub fn put_sending(out: &mut String, row: &Row) -> Result<(), AllocError> {
     match row.sending {
         Sending::Plain | Sending::Delivered => Ok(()),
         Sending::Lost => out.push_str(" [lost]"),
@@ -244,7 +244,7 @@ impl Frame<'_> {
         put_spaces(out, indent)?;
         out.push_str(entry)?;
         let end = indent.saturating_add(places(entry));
-        let changes = words_of(alloc, self.sheet.keys.as_slice(), row.changes.as_slice())?;
+        let changes = changed_words(alloc, self.sheet.keys.as_slice(), row.changes.as_slice())?;
         put_changes(out, end, self.total, changes.as_str())?;
         out.push('\n')?;
         put_reason(out, indent, row.reason.as_str())?;

@@ -5,4 +5,5 @@
 mod change;
 mod layout;
 
-pub use layout::text_of;
+pub use change::changed_words;
+pub use layout::{put_sending, text_of};

@@ -117,11 +117,3 @@ pub(crate) fn held_as<'a>(step: &Step<&'a str>) -> &'a str {
 pub(crate) fn is_last(step: &Step<&str>) -> bool {
     matches!(step, Step::Act(_, Op::Finish | Op::Stop))
 }
-
-/// The session of a step, where it is one of a session.
-pub(crate) fn session_of<'a>(step: &Step<&'a str>) -> Option<&'a str> {
-    match *step {
-        Step::Begin(name) | Step::Act(name, _) | Step::Send(name, _, _) => Some(name),
-        _ => None,
-    }
-}

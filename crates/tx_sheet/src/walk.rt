@@ -7,12 +7,12 @@ use crate::reply::{Reply, put_reply, reply_of};
 use crate::row::{Row, RowKind, Sending};
 use crate::seen::{SeenKey, SeenLock, seen_of};
 use crate::sessions::Sessions;
-use crate::step::{held_as, is_last, put_step, sending_of, session_of};
+use crate::step::{held_as, is_last, put_step, sending_of};
 use crate::words::put_shown;
 use serde_json::Value;
 use std::alloc::{AllocError, Global};
 use std::mem;
-use tx_film::{Film, Frame, KeyShown};
+use tx_film::{Film, Frame, KeyShown, session_named};
 use tx_reply::{ScriptReply, put_reply as put_reply_line};
 use tx_steps::{Line, Program, Step};
 use tx_text::{Broken, Parts, put_fault, value_of};
@@ -207,7 +207,7 @@ impl<'k> Walk<'k> {
         if matches!(row.sending, Sending::Held | Sending::Delivered) {
             put_shown(&mut row.held, held_as(step))?;
         }
-        let Some(name) = session_of(step) else {
+        let Some(name) = session_named(step) else {
             return put_reason(&mut row.reason, reply, None);
         };
         let session = self.sessions.of(self.alloc, name, place)?;

@@ -97,14 +97,21 @@ fn judge<I: BufRead, O: Write>(
     })
 }
 
+// What a picture is asked to be.
+fn form_asked(told: ExplainOptions) -> PictureForm {
+    if told.html {
+        PictureForm::Page
+    } else if told.svg {
+        PictureForm::Drawing
+    } else {
+        PictureForm::Text
+    }
+}
+
 // What is asked of a picture.
 fn picture_asked(told: ExplainOptions) -> PictureOptions {
     PictureOptions {
-        form: if told.svg {
-            PictureForm::Drawing
-        } else {
-            PictureForm::Text
-        },
+        form: form_asked(told),
         machine: told.machine,
     }
 }

@@ -1,0 +1,2 @@
+-- The text of a page.
+pub mod Pages

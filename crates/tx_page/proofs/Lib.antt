@@ -1,0 +1,2 @@
+-- Lines of a page, one after another.
+pub mod Told

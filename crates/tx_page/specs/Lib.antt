@@ -1,0 +1,2 @@
+-- What a page has of a film.
+pub mod Shown
