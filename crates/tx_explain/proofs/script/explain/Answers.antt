@@ -21,9 +21,11 @@ returns-clause-ends g c =
       film,
       subst (λ ls. Films (bounds_of ls) ls film) are c.in_ok-film.ensures,
       c.end-end.ensures,
-      c.as_slice-8.result.now,
-      c.in_ok-write_all.ensures.all,
-      subst (λ ls. Shows form ls film c.as_slice-8.result.now) drawn
-      (subst (λ t. Shows form (map now c.as_slice-6.result.now) film t) (sym c.as_slice-8.ensures.value)
-      c.in_ok-shown.ensures),
+      (
+        c.as_slice-7.result.now,
+        c.in_ok-write_all.ensures.all,
+        subst (λ ls. Shows form ls film c.as_slice-7.result.now) drawn
+            (subst (λ t. Shows form (map now c.as_slice-6.result.now) film t) (sym c.as_slice-7.ensures.value)
+            c.in_ok-shown.ensures),
+      ),
     ))) c.in_ok-text.ensures
