@@ -294,6 +294,7 @@ fn ending_of(options: PictureOptions) -> &'static str {
         (PictureForm::Text, true) => "machine.text",
         (PictureForm::Drawing, false) => "svg",
         (PictureForm::Drawing, true) => "machine.svg",
+        (PictureForm::Page, _) => "html",
     }
 }
 
