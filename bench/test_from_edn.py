@@ -52,6 +52,10 @@ class Forms(Lines):
     def test_numbers(self):
         self.ops_are("[[:w 3N +4] [:w 0 18446744073709551615] [:r -0 0N]]", ["w", 3, 4], ["w", 0, 2**64 - 1], ["r", 0, 0])
 
+    def test_values_below_zero_and_truths(self):
+        ops = ["w", 1, -(2**63)], ["append", 2, -1], ["r", 2, [True, False, -3]], ["r", 1, True]
+        self.ops_are("[[:w 1 -9223372036854775808N] [:append 2 -1] [:r 2 [true false -3]] [:r 1 true]]", *ops)
+
     def test_texts(self):
         self.ops_are(r'[[:w "a \"]}; b" "\t\n\\é\u00e9\ud83d\ude00"]]', ["w", 'a "]}; b', "\t\n\\éé\U0001f600"])
         self.ops_are('[[:w "two\nlines" "1"] [:w "" 1]]', ["w", "two\nlines", "1"], ["w", "", 1])
@@ -170,7 +174,10 @@ class Refusals(unittest.TestCase):
                     self.refused("{:type :%s :process 1 %s %s}" % (kind, f, value), 1, "an operation whose :value is no transaction")
 
     def test_names_that_are_none(self):
-        for wrong in ("nil", "true", "-1", "1.0", "18446744073709551616", "[1]", "{}", "#{1}", "\\a", '#inst "2026"', "1/2"):
+        for wrong in ("true", "-1"):
+            for op in ("[:append %s 1]", "[:r %s nil]"):
+                self.refused("{:type :ok :value [%s]}" % (op % wrong), 1, "a key that is neither")
+        for wrong in ("nil", "1.0", "18446744073709551616", "-9223372036854775809", "[1]", "{}", "#{1}", "\\a", '#inst "2026"', "1/2"):
             for op in ("[:w 1 %s]", "[:append %s 1]", "[:r %s 1]", "[:r 1 [2 %s]]"):
                 self.refused("{:type :ok :value [%s]}" % (op % wrong), 1, "a (key|value) that is neither")
         self.refused("{:type :ok :value [[:r 1 #{2}]]}", 1, "a value that is neither")

@@ -1,4 +1,5 @@
-"""Pictures of generated scripts: each sign stands for something that happened, and all that happened has its sign.
+"""Pictures of generated scripts: each sign stands for something that happened, all that happened has its sign, and the
+caption tells of the signs that are there, and of no others.
 
 What happened is found by bin/sweeps/meaning, from the case tables; the signs are read off the drawing by where they
 stand: a row by how far down, a key by its line.
@@ -18,6 +19,24 @@ TOP, ROW = 90, 32
 NAMES = {"put": 0, "insert": 0, "delete": 0, "lock": 0, "get": 1, "read": 0, "versions": 0}
 KEYED = ("get", "prewrite", "commit", "batch_rollback", "heartbeat", "check_status", "check_secondary", "resolve_lock")
 SVG = "{http://www.w3.org/2000/svg}"
+# What the caption says of a sign.
+CAPTION = {
+    "step": "a step, and its reply",
+    "refused": "refused, and why",
+    "ends": "a session ends",
+    "arrow": "a request that a region took",
+    "twice": "taken twice",
+    "beyond": "taken, but at no key of these",
+    "lost": "lost on its way",
+    "reply lost": "taken, and its reply lost",
+    "held": "held under that name, delivered where its line ends",
+    "two-phase": "a lock of two phases",
+    "async": "a lock of an async commit",
+    "cross": "a step met that lock",
+    "commit": "a commit: its start and its number",
+    "rollback": "a rollback",
+    "reads": "a read",
+}
 
 
 class Recorder(Store):
@@ -67,7 +86,7 @@ class Picture:
     """The signs that the picture of a script has to have."""
 
     def __init__(self, steps):
-        self.signs = collections.Counter()
+        self.signs, self.kinds = collections.Counter(), {"step"}
         bounds = steps[0][1] if steps[0][0] == "regions" else []
         self.play = Play(bounds)
         self.play.store = Recorder(bounds)
@@ -79,6 +98,9 @@ class Picture:
             self.line(place, step)
         for key, (row, kind) in self.bars.items():
             self.signs["bar", key, row, None, kind] += 1
+        self.kinds |= {sign[0] for sign in self.signs} | {sign[-1] for sign in self.signs if sign[0] in ("bar", "mark")}
+        for kind in self.kinds & set(CAPTION):
+            self.signs["caption", CAPTION[kind]] = 1
 
     def line(self, place, step):
         self.play.store.taken = []
@@ -90,6 +112,9 @@ class Picture:
         for key in changed:
             if key not in {it for it, _ in arrows}:
                 arrows.append((key, False))
+        self.kinds |= {"refused"} if reply[0][0] == "E" else set()
+        self.kinds |= {"twice"} if step[-1] == "repeat" and taken else set()
+        self.kinds |= {"beyond"} if not arrows and any(it[0] in (*KEYED, "scan") for it in taken) else set()
         for key, meets in arrows:
             self.signs["arrow", place, key] = 2 if step[-1] == "repeat" and taken else 1
             if meets:
@@ -180,7 +205,10 @@ def signs_of(svg):
     """The signs of a drawing."""
     signs, root = collections.Counter(), ElementTree.fromstring(svg)
     columns = {int(e.get("x")): e.text for e in root.iter(f"{SVG}text") if e.get("class") == "key"}
-    height = int(root.get("height"))
+    bottom = TOP + ROW * sum(e.get("class") == "number" for e in root) - 6
+    for e in root.iter(f"{SVG}text"):
+        if e.get("class") == "sign":
+            signs["caption", e.text] += 1
     for e in root:
         kind, tag = e.get("class"), e.tag.replace(SVG, "")
         if tag == "line" and kind == "sent" and int(e.get("x2")) + 6 in columns:
@@ -190,7 +218,7 @@ def signs_of(svg):
             signs["ends", row_of(int(e.get("y1")) - 9)] += 1
         if tag == "rect" and kind in ("async", "two-phase"):
             y, end = int(e.get("y")), int(e.get("y")) + int(e.get("height")) + 1
-            last = None if end == height - 12 else row_of(end)
+            last = None if end == bottom else row_of(end)
             signs["bar", columns[int(e.get("x")) + 4], row_of(y), last, kind] += 1
         if tag == "path" and kind in ("commit", "rollback", "cross"):
             x, y = map(int, re.match(r"M(\d+) (\d+)", e.get("d")).groups())
@@ -205,7 +233,7 @@ def signs_of(svg):
         name = next(t.text for t in root.iter(f"{SVG}text") if t.get("class") == "seen"
                     and int(t.get("x")) == int(e.get("x")) + 6 and int(t.get("y")) == int(e.get("y")) + 11)
         signs["held", row_of(int(e.get("y")) + 3), name] += 1
-    circles = collections.Counter((row_of(e.get("cy")), columns[int(e.get("cx"))]) for e in root.iter(f"{SVG}circle")
+    circles = collections.Counter((row_of(e.get("cy")), columns[int(e.get("cx"))]) for e in root
                                   if e.get("class") == "read")
     read = collections.Counter((s[1], s[2]) for s in signs if s[0] == "reads")
     if circles != read:

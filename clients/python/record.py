@@ -16,10 +16,17 @@ import time
 
 
 def _checked(name):
-    """A whole number below 2^64 or a text, as a key and a value of a history are."""
+    """A whole number below 2^64 or a text, as a key and a process of a history are."""
     if isinstance(name, str) or isinstance(name, int) and not isinstance(name, bool) and 0 <= name < 2**64:
         return name
     raise TypeError(f"neither a whole number below 2^64 nor a text: {name!r}")
+
+
+def _value(value):
+    """A whole number from -2^63 below 2^64, a truth or a text, as a value of a history is."""
+    if isinstance(value, (str, bool)) or isinstance(value, int) and -(2**63) <= value < 2**64:
+        return value
+    raise TypeError(f"neither a whole number from -2^63 below 2^64, nor a truth, nor a text: {value!r}")
 
 
 class Recorder:
@@ -87,18 +94,25 @@ class Transaction:
 
     def read(self, key, value):
         """The key had this value, None for none, or these values, where it is a list."""
-        values = [_checked(v) for v in value] if isinstance(value, (list, tuple)) else None
-        self._note("r", key, values if value is None or values is not None else _checked(value))
+        self._note("r", _checked(key), self._found(value))
         return value
+
+    def scan(self, low, high, rows):
+        """The keys from `low` up to but not including `high`, None for no bound, had these values, a
+        pair each, and no others had one. bench/scans writes the reads that this is; the pairs."""
+        bounds = [None if bound is None else _checked(bound) for bound in (low, high)]
+        found = [[_checked(key), self._found(value)] for key, value in rows]
+        self._note("scan", *bounds, found)
+        return rows
 
     def write(self, key, value=None):
         """The key is given this value, or one that is handed out; the value. To be called before
         the store is asked, so that it never holds a value of which no line tells."""
-        return self._note("w", key, self._recorder.value() if value is None else _checked(value))
+        return self._note("w", _checked(key), self._recorder.value() if value is None else _value(value))
 
     def append(self, key, value=None):
         """The same, behind the values of the key's list."""
-        return self._note("append", key, self._recorder.value() if value is None else _checked(value))
+        return self._note("append", _checked(key), self._recorder.value() if value is None else _value(value))
 
     def fail(self):
         """The store said that nothing was written."""
@@ -108,12 +122,19 @@ class Transaction:
         """The store did not say whether it was committed."""
         self._outcome = "info"
 
-    def _note(self, word, key, value):
+    @staticmethod
+    def _found(value):
+        """What a key had: a value, None, or values, of which a copy is kept."""
+        if value is None:
+            return None
+        return [_value(v) for v in value] if isinstance(value, (list, tuple)) else _value(value)
+
+    def _note(self, *op):
         with self._recorder._lock:
             if self not in self._recorder._open:
                 raise RuntimeError("the transaction is not open")
-            self.ops.append([word, _checked(key), value])
-        return value
+            self.ops.append(list(op))
+        return op[-1]
 
     def __enter__(self):
         self._recorder._begin(self)

@@ -140,7 +140,10 @@ class Lines(Recorded):
 
     def test_values_of_other_kinds_are_refused(self):
         with Recorder(self.path) as recorder:
-            for wrong in (True, -1, 2**64, 1.5, b"x", {}):
+            for wrong in (True, -1):
+                with self.assertRaises(TypeError), recorder.transaction() as t:
+                    t.read(wrong, 1)
+            for wrong in (-(2**63) - 1, 2**64, 1.5, b"x", {}):
                 with self.assertRaises(TypeError), recorder.transaction() as t:
                     t.write("x", wrong)
                 with self.assertRaises(TypeError), recorder.transaction() as t:
@@ -150,6 +153,22 @@ class Lines(Recorded):
             with self.assertRaises(TypeError):
                 recorder.transaction(process=1.5)
         self.assertEqual({(line["type"], len(line["ops"])) for line in self.lines()}, {("info", 0)})
+
+    def test_truths_and_values_below_zero(self):
+        with Recorder(self.path) as recorder, recorder.transaction() as t:
+            self.assertEqual(t.write("x", False), False)
+            t.append("l", -(2**63))
+            t.read("l", [-1, True, ""])
+        self.assertEqual(self.lines()[0]["ops"], [["w", "x", False], ["append", "l", -(2**63)], ["r", "l", [-1, True, ""]]])
+
+    def test_scans(self):
+        with Recorder(self.path) as recorder, recorder.transaction() as t:
+            rows = [("b", 1), ("c", [2])]
+            self.assertIs(t.scan("a", None, rows), rows)
+            for low, high, wrong in (("a", "z", [(None, 1)]), (1.5, "z", []), ("a", "z", [("b", 1.5)])):
+                with self.assertRaises(TypeError):
+                    t.scan(low, high, wrong)
+        self.assertEqual(self.lines()[0]["ops"], [["scan", "a", None, [["b", 1], ["c", [2]]]]])
 
     def test_a_process_makes_one_at_a_time(self):
         with Recorder(self.path) as recorder:

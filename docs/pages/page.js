@@ -241,8 +241,8 @@ function showMachine(n, now) {
 
 // ---- the drawing: what comes is pale, and this line has a band; the heads of columns stay
 const box = byId('drawing'), picture = box.querySelector('svg');
-const width = +picture.getAttribute('width'), height = +picture.getAttribute('height');
 const y = n => 58 + 32 * n;
+const width = +picture.getAttribute('width'), height = y(count + 1) + 6;
 const veil = draw('rect', { class: 'veil', x: 0, width }, picture);
 const band = draw('rect', { class: 'band', x: 0, width, height: 32 }, picture);
 const heads = document.createElementNS('http://www.w3.org/2000/svg', 'svg');

@@ -7,30 +7,28 @@
 //! `NAME.script.machine.svg`. Many small ones stand in `scripts.rows`, `checked.rows` (played as
 //! `txkv simulate --check` does), `numbered.rows` (the same, with the number of its line beside
 //! each step), `traces.rows`, `histories.rows` (judged as `txkv import` does, and the trace of each
-//! yes is checked), `ordered.rows` (the same with `--sessions --strict`) and `all.rows` (with
-//! `--all` as well), each with what it writes. The picture of a history (`NAME.history`, drawn as
+//! yes is checked), `ordered.rows` (the same with `--sessions --strict`), `serial.rows` (with
+//! `--level serializable` as well) and `all.rows` (with `--all` in its place), each with what it
+//! writes. The picture of a history (`NAME.history`, drawn as
 //! `txkv import --svg` does) is shown as `NAME.history.svg`.
 #![tactic(auto)]
 
+mod kind;
 mod rows;
 
 use anyhow::Result;
+use kind::{Kind, end_of};
 use rows::count_shown;
-use std::alloc::Global;
 use std::fs;
 use std::rt::Files;
 use std::sync::Wait;
 use std::thread::Threads;
-use tx_answers::{CycleForm, ImportEnd, ImportOptions, import};
 use tx_cells::Fresh;
-use tx_check::{check, check_with_reason};
 use tx_explain::{PictureForm, PictureOptions, explain};
 use tx_flat::FlatCells;
 use tx_nested::NestedCells;
-use tx_recording::Orders;
 use tx_run::{Plain, Settings, run_script};
 use tx_sched::Open;
-use tx_script::{simulate, simulate_checked, simulate_numbered};
 use tx_text::End;
 
 const SCRIPTS: [&str; 20] = [
@@ -89,35 +87,6 @@ const TRACES: [&str; 3] = [
     "machine_refuses_read.trace",
 ];
 
-/// What an example is.
-#[derive(Clone, Copy, Debug)]
-enum Kind {
-    Script,
-    /// A script over nested maps, in place of the flat ones that the program takes.
-    Nested,
-    /// A script with its check.
-    Checked,
-    /// The same over nested maps.
-    CheckedNested,
-    /// A script with its steps, each beside the number of its line.
-    Numbered,
-    Trace,
-    /// A trace with the reason of a no.
-    Reason,
-    /// A history of another store.
-    History,
-    /// The same, and the trace of a yes is checked.
-    TracedHistory,
-    /// A history that keeps the order of each process and of the clock.
-    Ordered,
-    /// The same, and the trace of a yes is checked.
-    TracedOrdered,
-    /// A history that keeps both orders and is judged to its end.
-    AllOfHistory,
-    /// A history whose answer is a picture.
-    DrawnHistory,
-}
-
 // Files of rows, how they are told, and what a row of each is.
 const ROWS: &[(&str, &str, Kind)] = &[
     ("scripts.rows", ", over flat maps", Kind::Script),
@@ -131,151 +100,10 @@ const ROWS: &[(&str, &str, Kind)] = &[
     ("histories.rows", ", with traces", Kind::TracedHistory),
     ("ordered.rows", "", Kind::Ordered),
     ("ordered.rows", ", with traces", Kind::TracedOrdered),
+    ("serial.rows", "", Kind::Serial),
+    ("serial.rows", ", with traces", Kind::TracedSerial),
     ("all.rows", "", Kind::AllOfHistory),
 ];
-
-const NO_ORDER: Orders = Orders {
-    sessions: false,
-    strict: false,
-};
-
-const BOTH_ORDERS: Orders = Orders {
-    sessions: true,
-    strict: true,
-};
-
-// Plays a script over these families. How it ended, unless it broke off.
-fn plays<F: Fresh>(alloc: Global, text: &[u8], written: &mut Vec<u8>) -> Option<End> {
-    let mut reader = text;
-    simulate::<F, _, _, _>(alloc, &Plain, &mut reader, written, &mut None).ok()
-}
-
-// The same with its check.
-fn checks<F: Fresh>(alloc: Global, text: &[u8], written: &mut Vec<u8>) -> Option<End> {
-    let mut reader = text;
-    simulate_checked::<F, _, _, _>(alloc, &Plain, &mut reader, written, &mut None).ok()
-}
-
-// The same with the number of its line beside each step.
-fn numbers<F: Fresh>(alloc: Global, text: &[u8], written: &mut Vec<u8>) -> Option<End> {
-    let mut reader = text;
-    simulate_numbered::<F, _, _, _>(alloc, &Plain, &mut reader, written, &mut None).ok()
-}
-
-/// A verdict by its line, with no order, and nothing more.
-const ONE_LINE: ImportOptions = ImportOptions {
-    orders: NO_ORDER,
-    trace: false,
-    form: CycleForm::Line,
-    all: false,
-    budget: 20_000,
-};
-
-const ORDERED: ImportOptions = ImportOptions {
-    orders: BOTH_ORDERS,
-    ..ONE_LINE
-};
-
-const TO_THE_END: ImportOptions = ImportOptions {
-    orders: BOTH_ORDERS,
-    all: true,
-    ..ONE_LINE
-};
-
-const AS_PICTURE: ImportOptions = ImportOptions {
-    form: CycleForm::Picture,
-    ..ONE_LINE
-};
-
-// Judges a history. How it ended, unless it broke off; that the verdict is open, its line says.
-fn judges(
-    alloc: Global,
-    options: ImportOptions,
-    text: &[u8],
-    written: &mut Vec<u8>,
-) -> Option<End> {
-    let mut reader = text;
-    let answered = import(alloc, options, &mut reader, written).ok()?;
-    Some(match answered.end {
-        ImportEnd::Yes | ImportEnd::Open => End::Well,
-        ImportEnd::No => End::No,
-        ImportEnd::Faulted => End::Faulted,
-    })
-}
-
-// Whether the answer to a history that a trace was asked of is no yes, or a trace that is a run.
-fn is_traced(alloc: Global, options: ImportOptions, text: &[u8]) -> Option<bool> {
-    let asked = ImportOptions {
-        trace: true,
-        ..options
-    };
-    let mut reader = text;
-    let mut trace = Vec::new(alloc);
-    let answered = import(alloc, asked, &mut reader, &mut trace).ok()?;
-    if answered.end != ImportEnd::Yes {
-        return Some(true);
-    }
-    let mut reader = trace.as_slice();
-    let mut said = Vec::new(alloc);
-    Some(check(alloc, &mut reader, &mut said).ok()? == End::Well)
-}
-
-// The same as `judges`; none where it is a yes whose trace is no run.
-fn judges_traced(
-    alloc: Global,
-    options: ImportOptions,
-    text: &[u8],
-    written: &mut Vec<u8>,
-) -> Option<End> {
-    if !is_traced(alloc, options, text)? {
-        return None;
-    }
-    judges(alloc, options, text, written)
-}
-
-impl Kind {
-    // Runs an example. How it ended, unless it broke off.
-    fn run(self, rt: &HostRuntime, text: &[u8], written: &mut Vec<u8>) -> Option<End> {
-        let alloc = rt.alloc();
-        let mut reader = text;
-        match self {
-            Kind::Script => plays::<FlatCells>(alloc, text, written),
-            Kind::Nested => plays::<NestedCells>(alloc, text, written),
-            Kind::Checked => checks::<FlatCells>(alloc, text, written),
-            Kind::CheckedNested => checks::<NestedCells>(alloc, text, written),
-            Kind::Numbered => numbers::<FlatCells>(alloc, text, written),
-            Kind::Trace => check(alloc, &mut reader, written).ok(),
-            Kind::Reason => check_with_reason(alloc, &mut reader, written).ok(),
-            Kind::History => judges(alloc, ONE_LINE, text, written),
-            Kind::TracedHistory => judges_traced(alloc, ONE_LINE, text, written),
-            Kind::Ordered => judges(alloc, ORDERED, text, written),
-            Kind::TracedOrdered => judges_traced(alloc, ORDERED, text, written),
-            Kind::AllOfHistory => judges(alloc, TO_THE_END, text, written),
-            Kind::DrawnHistory => judges(alloc, AS_PICTURE, text, written),
-        }
-    }
-}
-
-/// How what writes this text ends: its last line is a fault, says that a trace is no run or why, or
-/// is neither; of a history its first line says no.
-fn end_of(shown: &[u8]) -> End {
-    let text = shown.trim_ascii_end();
-    let last = match text.iter().rposition(|byte| *byte == b'\n') {
-        Some(newline) => text.get(newline..).unwrap_or(text),
-        None => text,
-    };
-    if last.windows(6).any(|part| part == b"\"E16\",".as_slice()) {
-        End::Faulted
-    } else if last.trim_ascii().starts_with(b"[\"check\",\"no\"")
-        || text.starts_with(b"[\"import\",\"no\"")
-        || last.trim_ascii().starts_with(b"[\"why\"")
-        || last.trim_ascii().starts_with(b"[\"wrote\"")
-    {
-        End::No
-    } else {
-        End::Well
-    }
-}
 
 // Whether an example ends as the file beside it tells, and writes what it shows.
 fn is_shown(rt: &HostRuntime, name: &str, kind: Kind) -> Result<bool> {
@@ -288,7 +116,7 @@ fn is_shown(rt: &HostRuntime, name: &str, kind: Kind) -> Result<bool> {
 }
 
 // The end of the name of the file that shows a picture.
-fn ending_of(options: PictureOptions) -> &'static str {
+fn ending_of(options: PictureOptions<'_>) -> &'static str {
     match (options.form, options.machine) {
         (PictureForm::Text, false) => "text",
         (PictureForm::Text, true) => "machine.text",
@@ -299,7 +127,7 @@ fn ending_of(options: PictureOptions) -> &'static str {
 }
 
 // Whether the run of a script is shown as the file beside it shows it.
-fn is_explained(rt: &HostRuntime, name: &str, options: PictureOptions) -> Result<bool> {
+fn is_explained(rt: &HostRuntime, name: &str, options: PictureOptions<'_>) -> Result<bool> {
     let script = fs::read(rt, name)?;
     let path = format!(in rt.alloc(); "{name}.{}", ending_of(options))?;
     let shown = fs::read(rt, path)?;
@@ -334,7 +162,11 @@ fn tell_explained(
     machine: bool,
     how: &str,
 ) -> Result<()> {
-    let options = PictureOptions { form, machine };
+    let options = PictureOptions {
+        form,
+        machine,
+        ..PictureOptions::TEXT
+    };
     for name in names {
         let shown = is_explained(rt, name, options)?;
         println!(rt; "{name}, {how}: {}", verdict(shown))?;

@@ -1,7 +1,7 @@
 //! Scripts in one file, one below another: a line with a title, then each step with the reply that
 //! it gets, a tab between them. A trace has its verdict behind its last step, and a checked script
 //! has what follows its replies on lines with no step.
-use crate::{Kind, end_of};
+use crate::kind::{Kind, end_of};
 use anyhow::Result;
 use std::fs;
 

@@ -1,6 +1,6 @@
 -- What is told of a history so far, one verdict after another.
 use Rattle.std.proofs.Common.{◌≡◌, ℕ, Bool, true, false, List, [], ◌∷◌, ◌++◌, length, get_or, refl, sym, ap, subst, ◌∙◌}
-use Rattle.std.specs.Prelude.{IsTrue, cond, ◌||◌}
+use Rattle.std.specs.Prelude.{cond, ◌||◌}
 use Rattle.tx_recording.specs.declared.recording.Recording.{Recording}
 use Rattle.tx_recording.specs.Recordings.{txns_of, ops_of}
 use Rattle.tx_verdict.specs.declared.verdict.Verdict.{Verdict}
@@ -11,7 +11,7 @@ use Rattle.tx_onward.specs.Left.{without, IsLeft}
 use Rattle.tx_answers.specs.declared.answer.ImportOptions.{ImportOptions}
 use Rattle.tx_answers.specs.declared.answer.ImportEnd.{ImportEnd}
 use Rattle.tx_answers.specs.Texts.{end_of}
-use Rattle.tx_answers.specs.All.{IsNext, TellsMore, TellsNoMore, AreNext, is_none, IsOneOf, IsTextOfAll, end_of_all, IsAllOf}
+use Rattle.tx_answers.specs.All.{IsNext, TellsNoMore, AreNext, is_none, IsOneOf, IsTextOfAll, end_of_all, IsAllOf}
 
 -- where there is a verdict, the end is that of the oldest
 abbrev pub EndsAs : List Verdict → ImportEnd → Type 0
@@ -20,7 +20,7 @@ EndsAs (v ∷ vs) end = end ≡ end_of_all v vs
 
 pub record IsSoFar (options : ImportOptions) (h : History) (told : List Bool) (text : List ℕ) (end : ImportEnd)
     (is_first : Bool) (vs : List Verdict) : Type 0 where
-  pub next : AreNext h.recording options.orders vs
+  pub next : AreNext h.recording options.question vs
   pub told_of : (t : ℕ) → get_or told t false ≡ told_by h.recording vs t
   pub count : length told ≡ txns_of h.recording
   pub said : IsTextOfAll options h vs text
@@ -51,8 +51,8 @@ ends_with (w ∷ ws) v end e = e
 pub is_next : (options : ImportOptions) (h : History) (told : List Bool) (text : List ℕ) (end : ImportEnd)
     (is_first : Bool)
     (vs : List Verdict) (left : Recording) (v : Verdict) → IsSoFar options h told text end is_first vs
-    → IsLeft h.recording (λ t. get_or told t false) left → IsVerdict left options.orders v
-    → IsNext h.recording options.orders vs v
+    → IsLeft h.recording (λ t. get_or told t false) left → IsVerdict left options.question v
+    → IsNext h.recording options.question vs v
 is_next options h told text end is_first vs left v s l verdict =
     (left, left_by h.recording left (λ t. get_or told t false) (told_by h.recording vs) s.told_of l, verdict)
 
@@ -79,7 +79,7 @@ end_so {end = end} {vs = vs} v new s e =
 -- a verdict that tells of none but those that were told of is the last
 pub done : (options : ImportOptions) (h : History) (told after : List Bool) (text more : List ℕ) (end new : ImportEnd)
     (is_first : Bool) (left : Recording) (v : Verdict) → SoFar options h told text end is_first
-    → IsLeft h.recording (λ t. get_or told t false) left → IsVerdict left options.orders v
+    → IsLeft h.recording (λ t. get_or told t false) left → IsVerdict left options.question v
     → ((one : List ℕ) × IsOneOf options h is_first v one × (more ≡ text ++ one))
     → new ≡ cond is_first (end_of v) end
     → ((t : ℕ) → get_or after t false ≡ (get_or told t false || tells h.recording v t)) → after ≡ told
@@ -103,7 +103,7 @@ done options h told after text more end new is_first left v (vs, s) l verdict (o
 pub more_so : (options : ImportOptions) (h : History) (told after : List Bool) (text more : List ℕ)
     (end new : ImportEnd)
     (is_first : Bool) (left : Recording) (v : Verdict) → SoFar options h told text end is_first
-    → IsLeft h.recording (λ t. get_or told t false) left → IsVerdict left options.orders v
+    → IsLeft h.recording (λ t. get_or told t false) left → IsVerdict left options.question v
     → ((one : List ℕ) × IsOneOf options h is_first v one × (more ≡ text ++ one))
     → new ≡ cond is_first (end_of v) end
     → ((t : ℕ) → get_or after t false ≡ (get_or told t false || tells h.recording v t))

@@ -1,7 +1,7 @@
 -- What is told of a history to its end. Lists of verdicts are newest first.
 use Rattle.std.specs.Prelude.{◌≡◌, ℕ, Bool, true, false, List, [], ◌∷◌, ◌++◌, IsTrue}
-use Rattle.tx_recording.specs.declared.recording.Orders.{Orders}
 use Rattle.tx_recording.specs.declared.recording.Recording.{Recording}
+use Rattle.tx_verdict.specs.declared.question.Question.{Question}
 use Rattle.tx_verdict.specs.declared.verdict.Verdict.{Verdict}
 use Rattle.tx_verdict.specs.declared.verdict.Verdict.TheVariants as verdict
 use Rattle.tx_verdict.specs.Verdicts.{IsVerdict}
@@ -13,8 +13,8 @@ use Rattle.tx_answers.specs.declared.answer.ImportEnd.{ImportEnd}
 use Rattle.tx_answers.specs.Texts.{end_of, IsTextOf}
 
 -- a verdict on what is left when the reads of those are taken out that these tell of
-abbrev pub IsNext : Recording → Orders → List Verdict → Verdict → Type 0
-IsNext r orders vs v = (left : Recording) × IsLeft r (told_by r vs) left × IsVerdict left orders v
+abbrev pub IsNext : Recording → Question → List Verdict → Verdict → Type 0
+IsNext r asked vs v = (left : Recording) × IsLeft r (told_by r vs) left × IsVerdict left asked v
 
 -- it tells of one that none of these tells of
 abbrev pub TellsMore : Recording → List Verdict → Verdict → Type 0
@@ -25,9 +25,9 @@ abbrev pub TellsNoMore : Recording → List Verdict → Verdict → Type 0
 TellsNoMore r vs v = (t : ℕ) → IsTrue (tells r v t) → IsTrue (told_by r vs t)
 
 -- each is the verdict on what those before it have left, and tells of one more
-abbrev pub AreNext : Recording → Orders → List Verdict → Type 0
-AreNext r orders [] = Unit {0}
-AreNext r orders (v ∷ vs) = AreNext r orders vs × IsNext r orders vs v × TellsMore r vs v
+abbrev pub AreNext : Recording → Question → List Verdict → Type 0
+AreNext r asked [] = Unit {0}
+AreNext r asked (v ∷ vs) = AreNext r asked vs × IsNext r asked vs v × TellsMore r vs v
 
 -- ---- what is written
 
@@ -54,6 +54,6 @@ end_of_all v (w ∷ ws) = end_of_all w ws
 
 -- verdicts one after another, up to the first that tells of none but those that were told of
 abbrev pub IsAllOf : ImportOptions → History → List ℕ → ImportEnd → Type 0
-IsAllOf options h text end = (v : Verdict) × (vs : List Verdict) × AreNext h.recording options.orders vs
-    × IsNext h.recording options.orders vs v × TellsNoMore h.recording vs v
+IsAllOf options h text end = (v : Verdict) × (vs : List Verdict) × AreNext h.recording options.question vs
+    × IsNext h.recording options.question vs v × TellsNoMore h.recording vs v
     × IsTextOfAll options h (v ∷ vs) text × (end ≡ end_of_all v vs)

@@ -24,7 +24,7 @@ use Rattle.tx_answers.specs.All.{IsAllOf}
 
 -- a verdict, and what is written of it
 abbrev pub IsOne : ImportOptions → History → List ℕ → ImportEnd → Type 0
-IsOne options h text end = (v : Verdict) × IsVerdict h.recording options.orders v × IsTextOf options h v text
+IsOne options h text end = (v : Verdict) × IsVerdict h.recording options.question v × IsTextOf options h v text
     × (end ≡ end_of v)
 
 -- what is said of a history: all to the end, or a verdict

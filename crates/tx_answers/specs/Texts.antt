@@ -1,6 +1,7 @@
 -- What is written of a verdict, and how it ends.
 use Rattle.std.specs.Prelude.{◌≡◌, ◌⊎◌, ℕ, List, IsTrue}
 use Rattle.tx_verdict.specs.declared.verdict.Cycle.{Cycle}
+use Rattle.tx_verdict.specs.declared.verdict.Fact.{Fact}
 use Rattle.tx_verdict.specs.declared.refutation.Refutation.{Refutation}
 use Rattle.tx_verdict.specs.declared.verdict.Verdict.{Verdict}
 use Rattle.tx_verdict.specs.declared.verdict.Verdict.TheVariants as verdict
@@ -13,6 +14,7 @@ use Rattle.tx_answers.specs.declared.answer.ImportEnd.TheVariants.{Yes, No, Open
 use Rattle.tx_answers.specs.Words.{verdict_text}
 use Rattle.tx_answers.specs.Drawings.{drawing_text, refuted_drawing}
 use Rattle.tx_answers.specs.Pictures.{picture_text, refuted_picture}
+use Rattle.tx_answers.specs.Reads.{read_drawing, read_picture}
 use Rattle.tx_answers.specs.Traces.{IsTrace}
 
 -- how a verdict ends
@@ -37,11 +39,18 @@ refuted_text Line h x = verdict_text h (verdict.Refuted x)
 refuted_text Graph h x = refuted_drawing h x
 refuted_text Picture h x = refuted_picture h x
 
+-- a read that cannot be: its line, or what is asked for in its place
+abbrev pub read_text : CycleForm → History → Fact → List ℕ
+read_text Line h f = verdict_text h (verdict.Fact f)
+read_text Graph h f = read_drawing h f
+read_text Picture h f = read_picture h f
+
 -- what is written of a verdict: its line, or where that is asked for the trace of a yes or the
--- drawing of a cycle or a refutation
+-- drawing of a no
 abbrev pub IsTextOf : ImportOptions → History → Verdict → List ℕ → Type 0
 IsTextOf options h (verdict.Yes t) text =
     (IsTrue options.trace × IsTrace h t text) ⊎ (text ≡ verdict_text h (verdict.Yes t))
 IsTextOf options h (verdict.No c) text = text ≡ cycle_text options.form h c
 IsTextOf options h (verdict.Refuted x) text = text ≡ refuted_text options.form h x
+IsTextOf options h (verdict.Fact f) text = text ≡ read_text options.form h f
 IsTextOf options h v text = text ≡ verdict_text h v

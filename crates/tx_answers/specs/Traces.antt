@@ -1,6 +1,7 @@
 -- The trace of timestamps that explain a recording: steps of the one-step machine, in which its
 -- transactions start, read what they saw, and commit what they put.
 use Rattle.std.specs.Prelude.{◌≡◌, ℕ, ◌+◌, ◌-◌, ◌==◌, Bool, false, ◌&&◌, cond, List, [], ◌∷◌, ◌++◌, reverse, length, take, drop, Option, Some, None, is_some, option_map, unwrap_or, zero, suc, slice_get, slice_index, slice_index_or, decimal}
+use Rattle.std.specs.Fmt.{signed_decimal}
 use Rattle.std.specs.List.{list_any, flat_map}
 use Rattle.std.specs.List.Sorted.{IsPermutation}
 use Rattle.tx_types.specs.declared.mutation.Change.{Change}
@@ -19,7 +20,10 @@ use Rattle.tx_recording.specs.Recordings.{txns_of, transaction_at, ops_of, no_op
 use Rattle.tx_verdict.specs.declared.verdict.Timestamps.{Timestamps}
 use Rattle.tx_import.specs.declared.name.Name.{Name}
 use Rattle.tx_import.specs.declared.name.Name.TheVariants.{Text, Number}
+use Rattle.tx_import.specs.declared.name.Scalar.{Scalar}
+use Rattle.tx_import.specs.declared.name.Scalar.TheVariants as scalar
 use Rattle.tx_import.specs.declared.reader.History.{History}
+use Rattle.tx_answers.specs.Words.{truth_word}
 use Rattle.tx_answers.specs.declared.moment.Moment.{Moment}
 use Rattle.tx_answers.specs.declared.moment.Moment.TheVariants.{Start, Commit}
 
@@ -44,11 +48,19 @@ abbrev pub name_bytes : Name → List ℕ
 name_bytes (Text s) = s
 name_bytes (Number n) = decimal n
 
+-- a value as a text, in the same way: true and false are their words
+abbrev pub scalar_bytes : Scalar → List ℕ
+scalar_bytes (scalar.Text s) = s
+scalar_bytes (scalar.Number n) = decimal n
+scalar_bytes (scalar.Negative z) = signed_decimal z
+scalar_bytes (scalar.Truth b) = truth_word b
+
 abbrev pub key_bytes : History → ℕ → List ℕ
 key_bytes h k = name_bytes (unwrap_or (slice_get h.tables.keys k) (Number 0))
 
 abbrev pub value_bytes : History → ℕ → List ℕ
-value_bytes h v = name_bytes (unwrap_or (option_map (λ kv. kv.name) (slice_get h.tables.values v)) (Number 0))
+value_bytes h v = scalar_bytes
+    (unwrap_or (option_map (λ kv. kv.value) (slice_get h.tables.values v)) (scalar.Number 0))
 
 -- what an act puts into its key
 abbrev pub put_by : Act → Option ℕ

@@ -1,14 +1,14 @@
 -- The words of what is said of a history. Transactions are told by their ids, keys and values by
 -- their names.
-use Rattle.std.specs.Prelude.{ℕ, ◌+◌, ◌++◌, List, [], ◌∷◌, codes, map, length, Option, Some, None, slice_get, option_map}
-use Rattle.serde_json.specs.Data.{Data, Items, no_items, item, Members, no_members, member, number, unsigned, string, null, array, object}
+use Rattle.std.specs.Prelude.{ℕ, ◌+◌, ◌++◌, Bool, true, false, List, [], ◌∷◌, codes, map, length, Option, Some, None, slice_get, option_map}
+use Rattle.serde_json.specs.Data.{Data, Items, no_items, item, Members, no_members, member, boolean, number, unsigned, negative, string, null, array, object}
 use Rattle.serde_json.specs.View.{items_of}
 use Rattle.tx_types.specs.declared.fault.Cause.TheVariants.{Form}
 use Rattle.tx_text.specs.Texts.{text_of, line_text}
 use Rattle.tx_text.specs.Members.{reply_text}
 use Rattle.tx_text.specs.Faults.{fault_words}
 use Rattle.tx_verdict.specs.declared.anomaly.Anomaly.{Anomaly}
-use Rattle.tx_verdict.specs.declared.anomaly.Anomaly.TheVariants.{G0, G1c, LostUpdate, GSingle, LongFork, GNonadjacent}
+use Rattle.tx_verdict.specs.declared.anomaly.Anomaly.TheVariants.{G0, G1c, LostUpdate, GSingle, LongFork, GNonadjacent, G2Item}
 use Rattle.tx_verdict.specs.declared.verdict.Edge.{Edge}
 use Rattle.tx_verdict.specs.declared.verdict.Edge.TheVariants.{Ww, Wr, Rw, So, Rt}
 use Rattle.tx_verdict.specs.declared.verdict.Beside.{Beside}
@@ -27,12 +27,26 @@ use Rattle.tx_verdict.specs.declared.verdict.Verdict.{Verdict}
 use Rattle.tx_verdict.specs.declared.verdict.Verdict.TheVariants as verdict
 use Rattle.tx_import.specs.declared.name.Name.{Name}
 use Rattle.tx_import.specs.declared.name.Name.TheVariants.{Text, Number}
+use Rattle.tx_import.specs.declared.name.Scalar.{Scalar}
+use Rattle.tx_import.specs.declared.name.Scalar.TheVariants as scalar
 use Rattle.tx_import.specs.declared.reader.History.{History}
 
 -- a name, as it was read
 abbrev pub name_data : Name → Data
 name_data (Text s) = text_of s
 name_data (Number n) = number (unsigned n)
+
+-- a value, as it was read
+abbrev pub scalar_data : Scalar → Data
+scalar_data (scalar.Text s) = text_of s
+scalar_data (scalar.Number n) = number (unsigned n)
+scalar_data (scalar.Negative z) = number (negative z)
+scalar_data (scalar.Truth b) = boolean b
+
+-- what true and false are called
+abbrev pub truth_word : Bool → List ℕ
+truth_word true = codes "true"
+truth_word false = codes "false"
 
 -- the name of a number, null where it has none
 abbrev pub or_null : Option Data → Data
@@ -43,7 +57,7 @@ abbrev pub key_data : History → ℕ → Data
 key_data h k = or_null (option_map name_data (slice_get h.tables.keys k))
 
 abbrev pub value_data : History → ℕ → Data
-value_data h v = or_null (option_map (λ kv. name_data kv.name) (slice_get h.tables.values v))
+value_data h v = or_null (option_map (λ kv. scalar_data kv.value) (slice_get h.tables.values v))
 
 -- the id of a transaction, null where there is none
 abbrev pub id_data : History → ℕ → Data
@@ -78,6 +92,7 @@ anomaly_word LostUpdate = codes "lost-update"
 anomaly_word GSingle = codes "G-single"
 anomaly_word LongFork = codes "long-fork"
 anomaly_word GNonadjacent = codes "G-nonadjacent"
+anomaly_word G2Item = codes "G2-item"
 
 -- which order a cycle needs beside those of reads and writes
 abbrev pub beside_word : Beside → List ℕ

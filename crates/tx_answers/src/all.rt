@@ -79,7 +79,7 @@ fn put_one(
     ensures end { OnOk result (answer.new.end ≡ cond is_first (end_of_verdict verdict.now) answer.old.end) }
 {
     let text = one_text(alloc, options, history, is_first, verdict)?;
-    let why = sentences(alloc, history, verdict)?;
+    let why = sentences(alloc, history, options.question.level, verdict)?;
     answer.text.extend_from_slice(text.as_slice())?;
     answer.why.extend_from_slice(why.as_slice())?;
     answer.end = end_with(is_first, answer.end, verdict);
@@ -135,7 +135,7 @@ pub(crate) fn judged_to_end(
     let mut is_first = true;
     'verdicts: loop {
         let left = left_of(alloc, &history.recording, told.as_slice())?;
-        let verdict = judge(alloc, &left, options.orders, options.budget)?;
+        let verdict = judge(alloc, &left, options.question, options.budget)?;
         put_one(alloc, &mut answer, options, history, is_first, &verdict)?;
         let is_more = note_all(&mut told, &history.recording, &verdict);
         if !is_more {

@@ -10,25 +10,25 @@ ghost use Rattle.tx_import.specs.Numbers.{AreInTurn};
 ghost use Rattle.tx_import.specs.Recorders.{IsTimely};
 ghost use Rattle.tx_answers.specs.Words.{verdict_text};
 ghost use Rattle.tx_answers.specs.Traces.{IsTrace};
-ghost use Rattle.tx_answers.specs.Texts.{end_of, cycle_text, refuted_text, IsTextOf};
+ghost use Rattle.tx_answers.specs.Texts.{end_of, cycle_text, refuted_text, read_text, IsTextOf};
 ghost use Rattle.tx_answers.specs.Answers.{IsOne, IsSaid, IsHeard, line_of as line_of_wrong, IsAnswer, WritesAnswer, Breaks};
 
 use crate::all::judged_to_end;
 use crate::drawing::{drawing, refuted_drawing};
 use crate::line::verdict_line;
 use crate::picture::{picture, refuted_picture};
+use crate::reads::{read_drawing, read_picture};
 use crate::sentences::{sentences, wrong_sentence};
 use crate::trace::trace_of;
 use std::alloc::Global;
 use std::io::{BufRead, Write};
 use tx_import::{History, LineFault, Misrecorded, bare_of, find_misrecorded, read_history};
 use tx_judge::judge;
-use tx_recording::Orders;
 use tx_text::{Broken, finish, put_fault, send};
 use tx_types::Cause;
-use tx_verdict::{Cycle, Refutation, Timestamps, Verdict};
+use tx_verdict::{Cycle, Fact, Question, Refutation, Timestamps, Verdict};
 
-/// How a cycle is told.
+/// How a no is told: its cycle, its refutation, or its read that cannot be.
 #[derive(Clone, Copy, Debug, PartialEq, Eq)]
 pub enum CycleForm {
     Line,
@@ -41,7 +41,7 @@ pub enum CycleForm {
 /// What is asked of a history.
 #[derive(Clone, Copy, Debug, PartialEq, Eq)]
 pub struct ImportOptions {
-    pub orders: Orders,
+    pub question: Question,
     /// Whether a yes is told by a trace that `tx_check` judges, in place of its line.
     pub trace: bool,
     pub form: CycleForm,
@@ -143,6 +143,24 @@ fn refuted_text(
     }
 }
 
+// What is written of a read that cannot be.
+fn read_text(
+    alloc: Global,
+    form: CycleForm,
+    history: &History,
+    verdict: &Verdict,
+    fact: Fact,
+) -> Result<Vec<u8>, Broken>
+    requires { verdict.now ≡ Verdict.Fact fact }
+    ensures { IfOk result (λ text. text.items ≡ read_text form history.now fact) }
+{
+    match form {
+        CycleForm::Line => Ok(verdict_line(alloc, history, verdict)?),
+        CycleForm::Graph => Ok(read_drawing(alloc, history, fact)?),
+        CycleForm::Picture => Ok(read_picture(alloc, history, fact)?),
+    }
+}
+
 /// What is written of a verdict.
 pub(crate) fn answer_text(
     alloc: Global,
@@ -159,6 +177,7 @@ pub(crate) fn answer_text(
         Verdict::Refuted(refutation) => {
             refuted_text(alloc, options.form, history, verdict, refutation)
         }
+        Verdict::Fact(fact) => read_text(alloc, options.form, history, verdict, *fact),
         _ => Ok(verdict_line(alloc, history, verdict)?),
     }
 }
@@ -168,9 +187,9 @@ fn judged_once(alloc: Global, options: ImportOptions, history: &History) -> Resu
     requires { IsRecording history.now.recording }
     ensures { IfOk result (λ answer. IsOne options history.now answer.text.items answer.end) }
 {
-    let verdict = judge(alloc, &history.recording, options.orders, options.budget)?;
+    let verdict = judge(alloc, &history.recording, options.question, options.budget)?;
     let text = answer_text(alloc, options, history, &verdict)?;
-    let why = sentences(alloc, history, &verdict)?;
+    let why = sentences(alloc, history, options.question.level, &verdict)?;
     let end = end_of(&verdict);
     Ok(Answer { text, end, why })
 }
@@ -280,8 +299,8 @@ fn write_out<W: Write>(writer: &mut W, text: &[u8]) -> Result<(), Broken>
 
 /// Judges a history, and writes one line: `["import","yes",{..}]`, `["import","no",..]`,
 /// `["import","open",keys]`, or `[n,"E16",cause]` with the first line that says no transaction.
-/// Where that is asked for, a trace in place of the line of a yes, and the drawing of a cycle or of
-/// a refutation in place of its line; or after a no also what comes of what it leaves, to the end.
+/// Where that is asked for, a trace in place of the line of a yes, and the drawing of a no in place
+/// of its line; or after a no also what comes of what it leaves, to the end.
 /// Nothing is written before all of it is known.
 ///
 /// `Input` where a read failed, `Output` where a write or the flush failed, `Memory` where a

@@ -29,8 +29,8 @@ fn put_bytes(out: &mut Vec<u8>, text: &[u8]) -> Result<(), AllocError>
     Ok(())
 }
 
-// Appends a text as a string of the drawing, which JSON's escapes are in, too.
-fn put_quoted(out: &mut Vec<u8>, text: &[u8]) -> Result<(), AllocError>
+/// Appends a text as a string of the drawing, which JSON's escapes are in, too.
+pub(crate) fn put_quoted(out: &mut Vec<u8>, text: &[u8]) -> Result<(), AllocError>
     ensures { OnOk result (out.new.items ≡ out.old.items ++ quoted text.now) }
 {
     out.extend_from_slice(b"\"")?;

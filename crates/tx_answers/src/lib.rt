@@ -9,6 +9,7 @@ mod drawing;
 mod line;
 mod moment;
 mod picture;
+mod reads;
 mod searched;
 mod sentences;
 mod steps;

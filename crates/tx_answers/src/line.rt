@@ -176,8 +176,8 @@ fn put_keys(out: &mut Vec<u8>, history: &History, keys: &[u32]) -> Result<(), Al
     out.extend_from_slice(b"]")
 }
 
-// Appends the name of a value, where it is known.
-fn put_known_value(
+/// Appends the name of a value, where it is known.
+pub(crate) fn put_known_value(
     out: &mut Vec<u8>,
     history: &History,
     value: Option<u32>,

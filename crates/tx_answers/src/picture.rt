@@ -2,18 +2,18 @@
 ghost use Rattle.std.specs.Prelude.{◌≡◌, ◌<◌, ◌++◌, length, OnOk, IfOk};
 ghost use Rattle.tx_verdict.specs.Steps.{step_at};
 ghost use Rattle.tx_answers.specs.Traces.{each_of};
-ghost use Rattle.tx_answers.specs.Pictures.{id_text, told_text, sense_text, reach_at, most_of, piece_text, piece_at, last_word, picture_of, picture_text, refuted_picture};
+ghost use Rattle.tx_answers.specs.Pictures.{id_text, told_text, sense_text, reach_at, most_of, tie_at, piece_text, piece_at, last_word, picture_of, picture_text, refuted_picture};
 ghost use Rattle.tx_ring.specs.Rings.{end_text};
 
 use crate::drawing::label;
 use crate::words::{cycle_word, edge_word, put_id};
 use std::alloc::{AllocError, Global};
 use tx_import::History;
-use tx_ring::{put_end, put_head, put_step, reach_of};
+use tx_ring::{Subject, Tie, put_end, put_head, put_step, reach_of};
 use tx_verdict::{Cycle, CycleStep, Edge, Refutation};
 
-// The id of a transaction.
-fn name(alloc: Global, history: &History, txn: u32) -> Result<Vec<u8>, AllocError>
+/// The id of a transaction.
+pub(crate) fn name(alloc: Global, history: &History, txn: u32) -> Result<Vec<u8>, AllocError>
     ensures { IfOk result (λ text. text.items ≡ id_text history.now txn) }
 {
     let mut text = Vec::new(alloc);
@@ -49,7 +49,7 @@ fn sense(alloc: Global, history: &History, step: CycleStep) -> Result<Vec<u8>, A
 {
     let CycleStep { from, edge, to, .. } = step;
     match edge {
-        Edge::Ww => told(alloc, history, "", to, " wrote it next after ", from, ""),
+        Edge::Ww => told(alloc, history, "", to, " wrote it after ", from, ""),
         Edge::Wr => told(alloc, history, "", to, " read what ", from, " wrote"),
         Edge::Rw => {
             let between = " read it as it was before ";
@@ -95,10 +95,10 @@ fn put_piece(
     out: &mut Vec<u8>,
     history: &History,
     place: usize,
-    is_last: bool,
+    tie: Tie,
     step: CycleStep,
 ) -> Result<(), AllocError>
-    ensures { OnOk result (out.new.items ≡ out.old.items ++ piece_text history.now place is_last step) }
+    ensures { OnOk result (out.new.items ≡ out.old.items ++ piece_text history.now place tie step) }
 {
     let name = name(alloc, history, step.from)?;
     let label = label(alloc, history, step)?;
@@ -107,12 +107,24 @@ fn put_piece(
     put_step(
         out,
         place,
-        is_last,
+        tie,
         kind,
         name.as_slice(),
         label.as_slice(),
         sense.as_slice(),
     )
+}
+
+// What leads to the next box from that at a place, of so many.
+fn tie_at(count: usize, place: usize) -> Tie
+    requires { place < count }
+    ensures { result ≡ tie_at count place }
+{
+    if place == count - 1 {
+        Tie::Nothing
+    } else {
+        Tie::Arrow
+    }
 }
 
 // Appends the box of the transaction at a place, and the edge that leaves it.
@@ -126,8 +138,8 @@ fn put_piece_at(
     requires { place < length steps.now }
     ensures { OnOk result (out.new.items ≡ out.old.items ++ piece_at history.now steps.now place) }
 {
-    let is_last = place == steps.len() - 1;
-    put_piece(alloc, out, history, place, is_last, steps[place])
+    let tie = tie_at(steps.len(), place);
+    put_piece(alloc, out, history, place, tie, steps[place])
 }
 
 // Appends the boxes of all transactions.
@@ -174,7 +186,7 @@ fn picture_of(
 {
     let reach = reach_over(alloc, history, steps)?;
     let mut out = Vec::new(alloc);
-    put_head(&mut out, title, steps.len(), reach)?;
+    put_head(&mut out, Subject::Cycle, title, steps.len(), reach)?;
     put_pieces(alloc, &mut out, history, steps)?;
     put_last(&mut out, steps)?;
     Ok(out)

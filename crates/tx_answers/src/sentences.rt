@@ -4,12 +4,15 @@ use std::alloc::{AllocError, Global};
 use tx_import::{History, Misrecorded};
 use tx_recording::Outcome;
 use tx_text::put_digits;
-use tx_verdict::{Cycle, CycleStep, Edge, Fact, Hint, Lemma, Order, Refutation, Rule, Verdict};
+use tx_verdict::{
+    Cycle, CycleStep, Edge, Fact, Hint, Lemma, Level, Order, Refutation, Rule, Verdict,
+};
 
 // A text that names transactions, keys and values of a history.
 #[derive(Drop)]
 struct Sentence<'a> {
     history: &'a History,
+    level: Level,
     text: Vec<u8>,
 }
 
@@ -55,8 +58,9 @@ impl<'a> Sentence<'a> {
         }
         self.say(last)?;
         self.txn(second)?;
-        self.say(match step.edge {
-            Edge::Rw => ": it started before that committed\n",
+        self.say(match (step.edge, self.level) {
+            (Edge::Rw, Level::Snapshot) => ": it started before that committed\n",
+            (Edge::Rw, Level::Serializable) => ": it had committed when that started\n",
             _ => ": it started when that had committed\n",
         })
     }
@@ -291,20 +295,23 @@ pub(crate) fn wrong_sentence(
 ) -> Result<Vec<u8>, AllocError> {
     let mut sentence = Sentence {
         history,
+        level: Level::Snapshot,
         text: Vec::new(alloc),
     };
     sentence.wrong(wrong)?;
     Ok(sentence.text)
 }
 
-/// The sentences of a verdict, each a line; none of a yes.
+/// The sentences of a verdict at a level, each a line; none of a yes.
 pub(crate) fn sentences(
     alloc: Global,
     history: &History,
+    level: Level,
     verdict: &Verdict,
 ) -> Result<Vec<u8>, AllocError> {
     let mut sentence = Sentence {
         history,
+        level,
         text: Vec::new(alloc),
     };
     sentence.verdict(verdict)?;

@@ -2,11 +2,12 @@
 ghost use Rattle.std.specs.Prelude.{◌≡◌, ◌<◌, ◌++◌, length, OnOk, IfOk};
 ghost use Rattle.std.specs.List.{list_any, flat_map};
 ghost use Rattle.tx_recording.specs.Recordings.{IsRecording, transaction_at, ops_of as ops_in};
-ghost use Rattle.tx_answers.specs.Traces.{key_bytes, name_bytes, value_bytes, put_by as put_of_act, is_put as is_put_op, is_put_into, found_by, read_at, reads_of, read_step, change_of, change_at, changes_of as changes_by, declared_by, start_steps, commit_steps, moment_steps};
+ghost use Rattle.tx_answers.specs.Traces.{key_bytes, name_bytes, scalar_bytes, value_bytes, put_by as put_of_act, is_put as is_put_op, is_put_into, found_by, read_at, reads_of, read_step, change_of, change_at, changes_of as changes_by, declared_by, start_steps, commit_steps, moment_steps};
 
 use crate::moment::Moment;
+use crate::words::{put_signed, truth_word};
 use std::alloc::Global;
-use tx_import::{History, Name};
+use tx_import::{History, Name, Scalar};
 use tx_machine::Step;
 use tx_recording::{Act, Op, Outcome, Recording, Span};
 use tx_text::{Broken, put_digits};
@@ -52,16 +53,34 @@ fn key_of(alloc: Global, history: &History, key: u32) -> Result<Key, Broken>
     }
 }
 
+// A number with a sign as a text.
+fn signed(alloc: Global, n: i64) -> Result<Vec<u8>, Broken>
+    ensures { IfOk result (λ text. text.items ≡ scalar_bytes (Scalar.Negative n)) }
+{
+    let mut text = Vec::new(alloc);
+    put_signed(&mut text, n)?;
+    Ok(text)
+}
+
+// A value as a text.
+fn value_text(alloc: Global, value: &Scalar) -> Result<Value, Broken>
+    ensures { IfOk result (λ made. made ≡ scalar_bytes value.now) }
+{
+    match value {
+        Scalar::Text(words) => new_value(alloc, words.as_bytes()),
+        Scalar::Number(n) => new_value(alloc, digits(alloc, *n)?.as_slice()),
+        Scalar::Negative(n) => new_value(alloc, signed(alloc, *n)?.as_slice()),
+        Scalar::Truth(truth) => new_value(alloc, truth_word(*truth).as_bytes()),
+    }
+}
+
 // The value of this number.
 fn value_of(alloc: Global, history: &History, value: u32) -> Result<Value, Broken>
     ensures { IfOk result (λ made. made ≡ value_bytes history.now value) }
 {
-    let Some(value) = history.tables.values.get(value as usize) else {
-        return new_value(alloc, digits(alloc, 0)?.as_slice());
-    };
-    match &value.name {
-        Name::Text(key) => new_value(alloc, key.as_bytes()),
-        Name::Number(n) => new_value(alloc, digits(alloc, *n)?.as_slice()),
+    match history.tables.values.get(value as usize) {
+        Some(keyed) => value_text(alloc, &keyed.value),
+        None => new_value(alloc, digits(alloc, 0)?.as_slice()),
     }
 }
 

@@ -1,10 +1,13 @@
-//! The words of an answer: names as they were read, and what the judge calls by words.
+//! The words of an answer: names and values as they were read, and what the judge calls by words.
 ghost use Rattle.std.specs.Prelude.{◌≡◌, ◌++◌, OnOk};
+ghost use Rattle.serde_json.specs.Data.{boolean};
 ghost use Rattle.serde_json.specs.Written.{compact_text};
-ghost use Rattle.tx_answers.specs.Words.{name_data, key_data, value_data, id_data, edge_word as word_of_edge, anomaly_word, beside_word, cycle_word as word_of_cycle, rule_word as word_of_rule};
+ghost use Rattle.std.specs.Fmt.{signed_decimal};
+ghost use Rattle.tx_answers.specs.Words.{name_data, scalar_data, key_data, value_data, id_data, truth_word as word_of_truth, edge_word as word_of_edge, anomaly_word, beside_word, cycle_word as word_of_cycle, rule_word as word_of_rule};
 
+use itoa::Buffer;
 use std::alloc::AllocError;
-use tx_import::{History, Name};
+use tx_import::{History, Name, Scalar};
 use tx_text::{put_digits, put_string};
 use tx_verdict::{Anomaly, Beside, Cycle, Edge, Rule};
 
@@ -18,6 +21,44 @@ fn put_name(out: &mut Vec<u8>, name: &Name) -> Result<(), AllocError>
     }
 }
 
+/// Appends a whole number, with a sign where it is below 0.
+pub(crate) fn put_signed(out: &mut Vec<u8>, n: i64) -> Result<(), AllocError>
+    ensures { OnOk result (out.new.items ≡ out.old.items ++ signed_decimal n) }
+{
+    let mut buffer = Buffer::new();
+    out.extend_from_slice(buffer.format(n).as_bytes())
+}
+
+/// What true and false are called.
+pub(crate) fn truth_word(truth: bool) -> &'static str
+    ensures { result.now ≡ word_of_truth truth }
+{
+    if truth { "true" } else { "false" }
+}
+
+// Appends true or false.
+fn put_truth(out: &mut Vec<u8>, truth: bool) -> Result<(), AllocError>
+    ensures { OnOk result (out.new.items ≡ out.old.items ++ compact_text (boolean truth)) }
+{
+    if truth {
+        out.extend_from_slice(b"true")
+    } else {
+        out.extend_from_slice(b"false")
+    }
+}
+
+// Appends a value, as it was read.
+fn put_scalar(out: &mut Vec<u8>, value: &Scalar) -> Result<(), AllocError>
+    ensures { OnOk result (out.new.items ≡ out.old.items ++ compact_text (scalar_data value.now)) }
+{
+    match value {
+        Scalar::Text(words) => put_string(out, words.as_bytes()),
+        Scalar::Number(n) => put_digits(out, *n),
+        Scalar::Negative(n) => put_signed(out, *n),
+        Scalar::Truth(truth) => put_truth(out, *truth),
+    }
+}
+
 /// Appends the name of a key.
 pub(crate) fn put_key(out: &mut Vec<u8>, history: &History, key: u32) -> Result<(), AllocError>
     ensures { OnOk result (out.new.items ≡ out.old.items ++ compact_text (key_data history.now key)) }
@@ -28,12 +69,12 @@ pub(crate) fn put_key(out: &mut Vec<u8>, history: &History, key: u32) -> Result<
     }
 }
 
-/// Appends the name of a value.
+/// Appends a value.
 pub(crate) fn put_value(out: &mut Vec<u8>, history: &History, value: u32) -> Result<(), AllocError>
     ensures { OnOk result (out.new.items ≡ out.old.items ++ compact_text (value_data history.now value)) }
 {
     match history.tables.values.get(value as usize) {
-        Some(value) => put_name(out, &value.name),
+        Some(keyed) => put_scalar(out, &keyed.value),
         None => out.extend_from_slice(b"null"),
     }
 }
@@ -72,6 +113,7 @@ fn anomaly_name(anomaly: Anomaly) -> &'static str
         Anomaly::GSingle => "G-single",
         Anomaly::LongFork => "long-fork",
         Anomaly::GNonadjacent => "G-nonadjacent",
+        Anomaly::G2Item => "G2-item",
     }
 }
 
@@ -86,6 +128,7 @@ fn process_name(anomaly: Anomaly) -> &'static str
         Anomaly::GSingle => "G-single-process",
         Anomaly::LongFork => "long-fork-process",
         Anomaly::GNonadjacent => "G-nonadjacent-process",
+        Anomaly::G2Item => "G2-item-process",
     }
 }
 
@@ -100,6 +143,7 @@ fn clock_name(anomaly: Anomaly) -> &'static str
         Anomaly::GSingle => "G-single-realtime",
         Anomaly::LongFork => "long-fork-realtime",
         Anomaly::GNonadjacent => "G-nonadjacent-realtime",
+        Anomaly::G2Item => "G2-item-realtime",
     }
 }
 

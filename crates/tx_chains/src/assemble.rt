@@ -6,8 +6,8 @@ use crate::plan::{Member, Plan, members_of};
 use crate::puts::{Put, list_at, number, put_at};
 use std::alloc::{AllocError, Global};
 use tx_history::{Read, Recorded};
-use tx_recording::{Op, Orders, Recording, Span};
-use tx_verdict::{Home, Lives, NO_SPAN, Versions, value_of};
+use tx_recording::{Op, Recording, Span};
+use tx_verdict::{Home, Lives, NO_SPAN, Question, Versions, value_of};
 use tx_views::{Effect, View, effect_of};
 
 // Notes which version the values of a transaction are part of.
@@ -185,12 +185,12 @@ fn assemble(
 }
 
 /// The versions of the chains of a plan, with what comes after what in the orders that are asked
-/// for.
+/// for, and where serializability is.
 pub fn versions_of(
     alloc: Global,
     recording: &Recording,
     views: &[View],
-    orders: Orders,
+    question: Question,
     lives: &Lives,
     puts: &[Put],
     plan: &Plan,
@@ -198,6 +198,6 @@ pub fn versions_of(
     requires { IsRecording recording.now }
 {
     let mut versions = assemble(alloc, recording, views, puts, lives, plan)?;
-    add_orders(alloc, &mut versions, recording, orders)?;
+    add_orders(alloc, &mut versions, recording, question)?;
     Ok(versions)
 }

@@ -1,12 +1,12 @@
-//! What comes after what, in the orders of processes and of the clock.
+//! What comes after what, in the orders of processes and of the clock, and in a serial execution.
 ghost use Rattle.tx_recording.specs.Recordings.{IsRecording};
 
 use crate::puts::{number, put_at};
 use std::alloc::{AllocError, Global};
 use tx_clock::{Event, events_of};
-use tx_history::After;
-use tx_recording::{Orders, Recording};
-use tx_verdict::Versions;
+use tx_history::{After, Read, Recorded};
+use tx_recording::Recording;
+use tx_verdict::{Level, Question, Versions};
 
 // The last of a process that is known to have committed.
 fn last_in(last: &[Option<u32>], process: usize) -> Option<u32> {
@@ -129,20 +129,57 @@ fn add_clock(
     Ok(())
 }
 
-/// Adds what comes after what in the orders that are asked for.
+// Who wrote the version after the one that was read, if there is one.
+fn writer_after(recorded: &Recorded, read: Read) -> Option<u32> {
+    let key = read.key as usize;
+    let first = recorded.heads.get(key)?;
+    let upto = recorded.heads.get(key.saturating_add(1))?;
+    let place = (*first as usize).saturating_add(read.version as usize);
+    if place >= *upto as usize {
+        return None;
+    }
+    let writer = recorded.writers.get(place)?;
+    Some(*writer)
+}
+
+// Adds that who wrote the version after one that another read comes after the reader: in a serial
+// execution one has committed when the other starts.
+fn add_missed(versions: &mut Versions) -> Result<(), AllocError> {
+    for i in 0..versions.recorded.reads.len() {
+        let Some(read) = versions.recorded.reads.get(i) else {
+            continue;
+        };
+        let read = *read;
+        let Some(later) = writer_after(&versions.recorded, read) else {
+            continue;
+        };
+        if later != read.txn {
+            versions.recorded.after.push(After {
+                earlier: read.txn,
+                later,
+            })?;
+        }
+    }
+    Ok(())
+}
+
+/// Adds what comes after what in the orders that are asked for, and where serializability is.
 pub(crate) fn add_orders(
     alloc: Global,
     versions: &mut Versions,
     recording: &Recording,
-    orders: Orders,
+    question: Question,
 ) -> Result<(), AllocError>
     requires { IsRecording recording.now }
 {
-    if orders.sessions {
+    if question.orders.sessions {
         add_sessions(alloc, versions, recording)?;
     }
-    if orders.strict {
+    if question.orders.strict {
         add_clock(alloc, versions, recording)?;
     }
-    Ok(())
+    match question.level {
+        Level::Snapshot => Ok(()),
+        Level::Serializable => add_missed(versions),
+    }
 }

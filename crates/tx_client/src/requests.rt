@@ -1,16 +1,17 @@
 //! One request, by a seat.
 ghost use Rattle.std.specs.Prelude.{◌≡◌};
 ghost use Rattle.tx_core.specs.Allowed.{Allowed};
-ghost use Rattle.tx_journal.specs.Senders.{IsHeld, IsSender};
+ghost use Rattle.tx_journal.specs.Senders.{IsHeld, IsSender, reached};
 ghost use Rattle.tx_client.specs.Learns.{Learns, response_by, response_of};
 ghost use Rattle.tx_client.specs.Facts.{RespondsSo};
 ghost use Rattle.tx_client.specs.Calls.{Asks};
 
 use tx_core::{Answer, Body};
-use tx_journal::{AnswerWithLock, JournalId, Lost, Reply, Request, Seat, Sender};
+use tx_journal::{AnswerWithLock, JournalId, Reply, Request, Seat, Sender};
 use tx_transaction::Miss;
 
 // What a reply comes to.
+#[inline(always)]
 fn response_by(answer: Option<AnswerWithLock>) -> Result<AnswerWithLock, Miss>
     ensures { result ≡ response_by answer }
 {
@@ -20,21 +21,21 @@ fn response_by(answer: Option<AnswerWithLock>) -> Result<AnswerWithLock, Miss>
     }
 }
 
-// A seat learns what a reply tells, if one came.
-#[inline(never)]
+// A seat learns what the reply at a place tells, if one came, and takes its answer.
+#[inline(always)]
 fn on_reply<J: JournalId>(
     seat: &mut Seat<J>,
-    reached: Result<Reply<J>, Lost>,
+    place: &mut Option<Reply<J>>,
 ) -> Result<AnswerWithLock, Miss>
-    ensures response { result ≡ response_of reached }
-    ensures learns { Learns J.bounds seat.old reached seat.new }
+    ensures response { result ≡ response_of (reached place.old) }
+    ensures learns { Learns J.bounds seat.old (reached place.old) seat.new }
 {
-    match reached {
-        Err(_) => Err(Miss::Lost),
-        Ok(reply) => {
-            let (_, answer, told) = reply.into_all();
+    match place {
+        None => Err(Miss::Lost),
+        Some(reply) => {
+            let told = reply.tell(&*seat);
             seat.learn(told);
-            response_by(answer)
+            response_by(reply.take_answer())
         }
     }
 }
@@ -52,8 +53,12 @@ pub(crate) fn ask_with_lock<J: JournalId, S: Sender<Request<J>, Reply<J>>>(
     ensures asked { Asks S.sends J.bounds seat.old body sender.old sender.new result seat.new }
     ensures told { RespondsSo seat.new.events body result }
 {
+    let asked = seat.tell();
     let told = seat.tell();
-    on_reply(seat, sender.send(Request::new(told, body)))
+    let request = Request::new(asked, body);
+    let mut place = Some(Reply::new(request, None, told));
+    sender.send_in(&mut place);
+    on_reply(seat, &mut place)
 }
 
 /// Sends a request, once, that is allowed after what the seat has seen, and learns what is told.

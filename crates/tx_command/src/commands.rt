@@ -2,6 +2,8 @@
 use crate::cells::{CellsKind, cells_of, cells_option};
 use crate::generated::{GenerateOptions, generate, generate_options};
 use crate::help;
+use crate::level::{LevelKind, level_of, level_option};
+use crate::picture::{ExplainOptions, explain, explain_options};
 use crate::samples::SAMPLE_NAMES;
 use crate::topics::REFUSAL_NAMES;
 use clap::builder::ValueParser;
@@ -68,20 +70,11 @@ impl CommandTask {
     }
 }
 
-/// How a run is shown.
-#[derive(Clone, Copy, Debug, PartialEq, Eq)]
-pub struct ExplainOptions {
-    /// Whether as a drawing, in place of text.
-    pub svg: bool,
-    /// Whether as a page, in place of text.
-    pub html: bool,
-    /// Whether with the machine's steps.
-    pub machine: bool,
-}
-
-/// What is asked of a history, beside whether its reads and writes are snapshot isolation.
+/// What is asked of a history.
 #[derive(Clone, Copy, Debug, PartialEq, Eq)]
 pub struct ImportOptions {
+    /// What its reads and writes are to be.
+    pub level: LevelKind,
     /// Whether each process saw what it had done.
     pub sessions: bool,
     /// Whether what began after another had ended came after it.
@@ -110,6 +103,10 @@ pub struct CommandLine<'a> {
     pub has_comments: bool,
     /// What a reply of a script that is made shorter must have in it.
     pub keep: &'a str,
+    /// The names of the keys that a picture shows, parted by commas; None is all.
+    pub keys: Option<&'a str>,
+    /// The names of the sessions that a picture shows, parted by commas; None is all.
+    pub sessions: Option<&'a str>,
     /// The file that it reads; None is standard input.
     pub file: Option<&'a str>,
 }
@@ -127,6 +124,7 @@ fn task_of(name: &str, asked: &ArgMatches<'_>) -> CommandTask {
         "simulate" if asked.get_flag("steps") => CommandTask::SimulateSteps,
         "simulate" => CommandTask::Simulate,
         "import" => CommandTask::Import(ImportOptions {
+            level: level_of(asked),
             sessions: asked.get_flag("sessions"),
             strict: asked.get_flag("strict"),
             trace: asked.get_flag("trace"),
@@ -137,14 +135,19 @@ fn task_of(name: &str, asked: &ArgMatches<'_>) -> CommandTask {
         }),
         "generate" => CommandTask::Generate(generate_options(asked)),
         "reduce" => CommandTask::Reduce,
-        "explain" => CommandTask::Explain(ExplainOptions {
-            svg: asked.get_flag("svg"),
-            html: asked.get_flag("html"),
-            machine: asked.get_flag("machine"),
-        }),
+        "explain" => CommandTask::Explain(explain_options(asked)),
         _ if asked.get_flag("all") => CommandTask::CheckAll(asked.get_flag("why")),
         _ if asked.get_flag("why") => CommandTask::CheckWithReason,
         _ => CommandTask::Check,
+    }
+}
+
+// The names that are asked of a picture: options of other commands are called so as well.
+fn names_asked<'a>(command: &str, asked: &ArgMatches<'a>, option: &str) -> Option<&'a str> {
+    if command == "explain" {
+        asked.get_str(option)
+    } else {
+        None
     }
 }
 
@@ -157,6 +160,8 @@ pub fn job_of<'a>(matches: &ArgMatches<'a>) -> CommandLine<'a> {
             has_stats: asked.get_flag("stats"),
             has_comments: asked.get_flag("comments"),
             keep: asked.get_str("keep").unwrap_or_default(),
+            keys: names_asked(name, asked, "keys"),
+            sessions: names_asked(name, asked, "sessions"),
             file: file_of(asked),
         },
         None => CommandLine {
@@ -165,6 +170,8 @@ pub fn job_of<'a>(matches: &ArgMatches<'a>) -> CommandLine<'a> {
             has_stats: false,
             has_comments: false,
             keep: "",
+            keys: None,
+            sessions: None,
             file: None,
         },
     }
@@ -175,29 +182,29 @@ fn file_of<'a>(asked: &ArgMatches<'a>) -> Option<&'a str> {
     asked.get_str("file").filter(|name| *name != "-")
 }
 
-// The file that a command reads.
-fn file<'a>(alloc: Global) -> Arg<'a> {
+/// The file that a command reads.
+pub(crate) fn file<'a>(alloc: Global) -> Arg<'a> {
     Arg::new(alloc, "file")
         .value_name("FILE")
         .help("The file to read; - or nothing is standard input")
 }
 
-// What is asked for by its name alone.
-fn flag<'a>(alloc: Global, name: &'a str, help: &'a str) -> Arg<'a> {
+/// What is asked for by its name alone.
+pub(crate) fn flag<'a>(alloc: Global, name: &'a str, help: &'a str) -> Arg<'a> {
     Arg::new(alloc, name)
         .long(name)
         .action(ArgAction::SetTrue)
         .help(help)
 }
 
-// What passes over comments.
-fn comments<'a>(alloc: Global) -> Arg<'a> {
+/// What passes over comments.
+pub(crate) fn comments<'a>(alloc: Global) -> Arg<'a> {
     let help = "Passes over empty lines and lines that begin with #; what is left is numbered";
     flag(alloc, "comments", help)
 }
 
-// A command with one more argument, if there was memory for that.
-fn with<'a>(
+/// A command with one more argument, if there was memory for that.
+pub(crate) fn with<'a>(
     command: Command<'a>,
     arg: Result<Arg<'a>, AllocError>,
 ) -> Result<Command<'a>, AllocError> {
@@ -259,27 +266,6 @@ fn simulate<'a>(alloc: Global) -> Result<Command<'a>, AllocError> {
         .arg(file(alloc))
 }
 
-// A page of a run.
-fn page<'a>(alloc: Global) -> Result<Arg<'a>, AllocError> {
-    let help = "Writes a page in place of text: the drawing, and what stands at each line, by keys";
-    flag(alloc, "html", help).conflicts_with("svg")
-}
-
-fn explain<'a>(alloc: Global) -> Result<Command<'a>, AllocError> {
-    let svg = "Writes a drawing in place of text, an SVG: time goes down, requests are arrows";
-    let machine =
-        "Shows with each line the machine's steps that it made, as where a commit happened";
-    let command = Command::new(alloc, "explain")
-        .about(help::EXPLAIN_ABOUT)
-        .after_help(help::EXPLAIN_HELP)
-        .arg(flag(alloc, "svg", svg))?;
-    with(command, page(alloc))?
-        .arg(flag(alloc, "machine", machine))?
-        .arg(comments(alloc))?
-        .arg(cells_option(alloc))?
-        .arg(file(alloc))
-}
-
 // How many threads make the steps of a run.
 fn workers<'a>(alloc: Global) -> Arg<'a> {
     Arg::new(alloc, "workers")
@@ -312,9 +298,9 @@ fn run<'a>(alloc: Global) -> Result<Command<'a>, AllocError> {
         .arg(file(alloc))
 }
 
-// A drawing of a cycle.
-fn cycle_drawing<'a>(alloc: Global) -> Result<Arg<'a>, AllocError> {
-    let help = "Draws the cycle of a no, an SVG, in place of its line";
+// A drawing of a no.
+fn drawing_of_no<'a>(alloc: Global) -> Result<Arg<'a>, AllocError> {
+    let help = "Draws a no, an SVG, in place of its line";
     flag(alloc, "svg", help)
         .conflicts_with("dot")?
         .conflicts_with("all")
@@ -333,16 +319,17 @@ fn import<'a>(alloc: Global) -> Result<Command<'a>, AllocError> {
     let sessions = "Asks as well that each process sees what it did before";
     let strict = "Asks as well that what began after another had ended comes after it";
     let trace = "Writes a yes as a trace that txkv check judges, in place of its line";
-    let dot = "Writes the cycle of a no for Graphviz, in place of its line";
+    let dot = "Writes a no for Graphviz, in place of its line";
     let all = "Goes on after a no, as if nobody knew what its transactions had read";
     let command = Command::new(alloc, "import")
         .about(help::IMPORT_ABOUT)
         .after_help(help::IMPORT_HELP)
+        .arg(level_option(alloc))?
         .arg(flag(alloc, "sessions", sessions))?
         .arg(flag(alloc, "strict", strict))?
         .arg(flag(alloc, "trace", trace))?
         .arg(flag(alloc, "dot", dot))?;
-    let command = with(command, cycle_drawing(alloc))?;
+    let command = with(command, drawing_of_no(alloc))?;
     command
         .arg(flag(alloc, "all", all))?
         .arg(budget(alloc))?

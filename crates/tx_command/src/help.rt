@@ -92,10 +92,15 @@ changed of each key: its lock, and write records that came (+) and went (-). A
 refusal has its reason on a line of its own. With --machine a line that made
 steps of the machine has these below it, up to a fault. With --html the run is a
 page for a browser, which one steps through. docs/EXPLAIN.md has all forms.
+With --from, --to, --keys and --sessions text or drawing show a part of the run,
+with --width text has lines of so many places; a page takes none of these. Names
+are parted by commas. A name that the script does not have is a fault, status 2.
 
 Examples:
   txkv explain push.script
       A reader that need not wait, step by step
+  txkv explain --from 9 --to 14 --keys b push.script
+      What came of a lock in its way
   txkv explain --svg push.script > push.svg
       The same as a drawing
   txkv explain --html push.script > push.html
@@ -210,9 +215,9 @@ order in which it ran them:
   {"id":1,"type":"ok","process":3,"start":10,"end":12,"ops":[..]}
 type is "ok" where it committed, "fail" where it did not, "info" where nobody
 knows. id, process, start and end may be left out; start and end are numbers of
-one clock. Keys and values are strings or whole numbers; each value is given to
-a key once, or again where one that failed gave it and none of its values was
-read. An operation is one of
+one clock. Keys are strings or whole numbers, values also true or false; each
+value is given to a key once, or again where one that failed gave it and none of
+its values was read. An operation is one of
   ["append",key,value]  It put the value behind those of the key's list
   ["r",key,[value,..]]  It read the list
   ["w",key,value]       It wrote the value: a key is a list or such a register
@@ -230,12 +235,14 @@ Examples:
       ["import","yes",{..}], or ["import","no",name,[[id,edge,key,id],..]]
   txkv import --strict read_committed.history
       The same, by the clock as well
+  txkv import --level serializable read_committed.history
+      Whether it is serializable; with --strict, strictly serializable
   txkv import --trace read_committed.history
       A yes as steps, for txkv check
   txkv import --dot read_committed.history
-      The cycle of a no for Graphviz
+      A no for Graphviz
   txkv import --svg read_committed.history
-      The cycle of a no as a drawing
+      A no as a drawing
   txkv import --all read_committed.history
       Every no, a line each
   txkv import --budget 1000000 read_committed.history

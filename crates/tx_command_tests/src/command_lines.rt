@@ -19,6 +19,16 @@ pub(crate) fn words_of(alloc: Global, line: &str) -> Result<Vec<String>, Fail> {
     Ok(words)
 }
 
+/// A run that is shown as text, with nothing left out.
+pub(crate) const TEXT: ExplainOptions = ExplainOptions {
+    svg: false,
+    html: false,
+    machine: false,
+    from: 1,
+    to: None,
+    width: None,
+};
+
 // Command lines, the tasks that they ask for, and the files that those read.
 static JOBS: [(&str, CommandTask, Option<&str>); 23] = [
     ("simulate", CommandTask::Simulate, None),
@@ -44,38 +54,26 @@ static JOBS: [(&str, CommandTask, Option<&str>); 23] = [
     ),
     (
         "explain a.script",
-        CommandTask::Explain(ExplainOptions {
-            svg: false,
-            html: false,
-            machine: false,
-        }),
+        CommandTask::Explain(TEXT),
         Some("a.script"),
     ),
     (
         "explain --svg",
-        CommandTask::Explain(ExplainOptions {
-            svg: true,
-            html: false,
-            machine: false,
-        }),
+        CommandTask::Explain(ExplainOptions { svg: true, ..TEXT }),
         None,
     ),
     (
         "explain --machine --svg",
         CommandTask::Explain(ExplainOptions {
             svg: true,
-            html: false,
             machine: true,
+            ..TEXT
         }),
         None,
     ),
     (
         "explain --html a.script",
-        CommandTask::Explain(ExplainOptions {
-            svg: false,
-            html: true,
-            machine: false,
-        }),
+        CommandTask::Explain(ExplainOptions { html: true, ..TEXT }),
         Some("a.script"),
     ),
     ("check", CommandTask::Check, None),
@@ -118,6 +116,8 @@ fn command_lines_say_jobs(rt: HostRuntime) -> Result<(), Fail> {
             has_stats: false,
             has_comments: false,
             keep: "",
+            keys: None,
+            sessions: None,
             file,
         };
         let is_asked = asks_for(rt.alloc(), line, job)?;

@@ -27,6 +27,8 @@ fn job(options: GenerateOptions) -> CommandLine<'static> {
         has_stats: false,
         has_comments: false,
         keep: "",
+        keys: None,
+        sessions: None,
         file: None,
     }
 }

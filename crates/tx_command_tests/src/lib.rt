@@ -6,6 +6,8 @@ mod command_lines;
 #[cfg(test)]
 mod generated;
 #[cfg(test)]
+mod pictures;
+#[cfg(test)]
 mod sentences;
 #[cfg(test)]
 mod shown;

@@ -9,7 +9,7 @@ use tx_text::{End, Parts};
 use tx_types::Cause;
 
 // Lines of scripts that are faults, and why.
-static SCRIPTS: [(&str, Cause, &str); 46] = [
+static SCRIPTS: [(&str, Cause, &str); 47] = [
     (
         r#"["commit","A","loose"]"#,
         Cause::Form,
@@ -182,6 +182,11 @@ static SCRIPTS: [(&str, Cause, &str); 46] = [
         r#"["get","A""#,
         Cause::Json,
         "json: the line is no JSON value: EOF while parsing at byte 10",
+    ),
+    (
+        " :keys",
+        Cause::Json,
+        "json: the line is no JSON value: invalid JSON at byte 2; words with a colon are for a terminal",
     ),
     (
         r#"["get","A","a"]"#,

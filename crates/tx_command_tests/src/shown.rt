@@ -56,6 +56,8 @@ fn terminals_say_what_is_shown(rt: HostRuntime) {
             has_stats: false,
             has_comments: false,
             keep: "",
+            keys: None,
+            sessions: None,
             file,
         };
         assert!(rt; shown_at(job, terminals) == display);

@@ -1,12 +1,14 @@
-//! A sheet as a drawing.
-use crate::frame::put_frame;
+//! A part of a sheet as a drawing.
+use crate::caption::caption_of;
+use crate::frame::{put_frame, put_opening};
 use crate::label::{label_of, machine_words};
 use crate::layout::{LEFT, Layout, row_height};
 use crate::locks::Bars;
 use crate::markup::{at, put_words};
 use crate::rows::{HeldBox, put_dot_and_label, put_machine, put_reads, put_reason, put_sending};
 use std::alloc::{AllocError, Global};
-use tx_sheet::{Row, RowKind, Sheet, put_number};
+use tx_cut::{HiddenLock, Part, ShownRow};
+use tx_sheet::{Row, RowKind, put_number};
 
 // A drawing that is being made: what lies under, the grounds of words, what no ground may hide, and
 // what lies over all.
@@ -23,20 +25,20 @@ struct Drawing {
 }
 
 // The words over each step.
-fn labels_of(alloc: Global, sheet: &Sheet) -> Result<Vec<String>, AllocError> {
+fn labels_of(alloc: Global, part: &Part<'_>) -> Result<Vec<String>, AllocError> {
     let mut labels = Vec::new(alloc);
-    'rows: for (place, row) in sheet.rows.iter().enumerate() {
-        labels.push(label_of(alloc, sheet, place, row)?)?;
+    'rows: for (place, shown) in part.rows.iter().enumerate() {
+        labels.push(label_of(alloc, part, place, shown.row)?)?;
     }
     Ok(labels)
 }
 
 impl Drawing {
-    // The frame of a sheet whose steps have these words.
-    fn new(alloc: Global, sheet: &Sheet, labels: &[String]) -> Result<Drawing, AllocError> {
-        let layout = Layout::of(alloc, sheet, labels)?;
+    // The frame of a part of a sheet whose steps have these words.
+    fn new(alloc: Global, part: &Part<'_>, labels: &[String]) -> Result<Drawing, AllocError> {
+        let layout = Layout::of(alloc, part, labels)?;
         let mut under = String::new(alloc);
-        put_frame(&mut under, &layout, sheet)?;
+        put_frame(&mut under, &layout, part)?;
         Ok(Drawing {
             alloc,
             layout,
@@ -44,7 +46,7 @@ impl Drawing {
             grounds: String::new(alloc),
             middle: String::new(alloc),
             over: String::new(alloc),
-            bars: Bars::new(alloc, sheet.keys.len())?,
+            bars: Bars::new(alloc, part.keys.len())?,
             boxes: Vec::new(alloc),
         })
     }
@@ -59,12 +61,12 @@ impl Drawing {
     // A step, where its requests went and what changed by it.
     fn put_step(
         &mut self,
-        sheet: &Sheet,
+        part: &Part<'_>,
         y: usize,
         row: &Row,
         label: &str,
     ) -> Result<(), AllocError> {
-        let Some(column) = self.layout.sender(sheet.column_of(row)) else {
+        let Some(column) = self.layout.sender(part.column_of(row)) else {
             return Ok(());
         };
         let place = at(column.line, y);
@@ -88,7 +90,7 @@ impl Drawing {
             y,
             row,
         )?;
-        let begins = self.layout.reason_begins(sheet, row);
+        let begins = self.layout.reason_begins(part, row);
         put_reason(
             &mut self.grounds,
             &mut self.over,
@@ -120,45 +122,74 @@ impl Drawing {
     // The row at this place.
     fn put_row(
         &mut self,
-        sheet: &Sheet,
+        part: &Part<'_>,
         place: usize,
-        row: &Row,
+        shown: ShownRow<'_>,
         label: &str,
     ) -> Result<(), AllocError> {
-        let y = row_height(place);
-        self.put_number(y, (place as u64).saturating_add(1))?;
+        let (row, y) = (shown.row, row_height(place));
+        self.put_number(y, shown.number)?;
         self.put_machine(y, row)?;
         match row.kind {
             RowKind::Regions => Ok(()),
-            RowKind::Step => self.put_step(sheet, y, row, label),
+            RowKind::Step => self.put_step(part, y, row, label),
             RowKind::Other => self.put_other(y, row, label),
         }
     }
 
-    // The whole drawing.
-    fn finish(mut self) -> Result<String, AllocError> {
+    // What lines that are not shown changed of locks, before the row at this place.
+    fn put_hidden(&mut self, place: usize, locks: &[HiddenLock<'_>]) -> Result<(), AllocError> {
+        self.bars.put_hidden(
+            self.alloc,
+            &mut self.middle,
+            &mut self.over,
+            &self.layout,
+            place,
+            locks,
+        )
+    }
+
+    // The rows, each behind what lines before it changed that are not shown.
+    fn put_rows(&mut self, part: &Part<'_>, labels: &[String]) -> Result<(), AllocError> {
+        'rows: for (place, hidden) in part.hidden.iter().enumerate() {
+            self.put_hidden(place, hidden.as_slice())?;
+            if let (Some(shown), Some(label)) = (part.rows.get(place), labels.get(place)) {
+                self.put_row(part, place, *shown, label.as_str())?;
+            }
+        }
+        Ok(())
+    }
+
+    // The whole drawing, with its caption.
+    fn finish(mut self, part: &Part<'_>) -> Result<String, AllocError> {
         self.bars.put_rest(&mut self.middle, &self.layout)?;
         let Drawing {
-            mut under,
+            alloc,
+            layout,
+            under: mut body,
             grounds,
             middle,
             over,
             ..
         } = self;
-        under.push_str(grounds.as_str())?;
-        under.push_str(middle.as_str())?;
-        under.push_str(over.as_str())?;
-        under.push_str("</svg>\n")?;
-        Ok(under)
+        body.push_str(grounds.as_str())?;
+        body.push_str(middle.as_str())?;
+        body.push_str(over.as_str())?;
+        let caption = caption_of(alloc, part, &layout, body.as_str())?;
+        let mut whole = String::new(alloc);
+        let height = caption.bottom.saturating_add(8);
+        put_opening(&mut whole, part, caption.width, height)?;
+        whole.push_str(body.as_str())?;
+        whole.push_str(caption.markup.as_str())?;
+        whole.push_str("</svg>\n")?;
+        Ok(whole)
     }
 }
 
-/// The drawing of a sheet: a column a session and a key, time down.
-pub fn svg_of(alloc: Global, sheet: &Sheet) -> Result<String, AllocError> {
-    let labels = labels_of(alloc, sheet)?;
-    let mut drawing = Drawing::new(alloc, sheet, labels.as_slice())?;
-    'rows: for (place, (row, label)) in sheet.rows.iter().zip(labels.as_slice()).enumerate() {
-        drawing.put_row(sheet, place, row, label.as_str())?;
-    }
-    drawing.finish()
+/// The drawing of a part of a sheet: a column a session and a key, time down, and a caption below.
+pub fn svg_of(alloc: Global, part: &Part<'_>) -> Result<String, AllocError> {
+    let labels = labels_of(alloc, part)?;
+    let mut drawing = Drawing::new(alloc, part, labels.as_slice())?;
+    drawing.put_rows(part, labels.as_slice())?;
+    drawing.finish(part)
 }

@@ -1,8 +1,9 @@
 //! What stands around the rows: the head of the drawing, bands of regions, heads and lines.
 use crate::layout::{Column, HEAD, Layout, TOP, row_height};
 use crate::markup::{Area, at, put_box, put_line, put_words};
-use std::alloc::AllocError;
-use tx_sheet::{KeyColumn, Session, Sheet, put_number, shown};
+use std::alloc::{AllocError, Global};
+use tx_cut::{Life, Part};
+use tx_sheet::{put_number, put_stamp, shown};
 
 // How each class looks: sizes of words, colours.
 static STYLE: &str = "<style>\
@@ -29,17 +30,32 @@ static STYLE: &str = "<style>\
     .commit{fill:#2e7d32}\
     .rollback{fill:#b00020}\
     .read{stroke:#33598f;fill:#fff}\
+    .sign{fill:#333;font-size:10px}\
     </style>\n";
 
-/// Appends how the drawing begins: its size, and how its parts look.
-pub(crate) fn put_opening(out: &mut String, layout: &Layout) -> Result<(), AllocError> {
-    let (width, height) = (layout.width, layout.height);
+// Appends what the drawing is of: the run of a script, or of some of its lines.
+fn put_title(out: &mut String, part: &Part<'_>) -> Result<(), AllocError> {
+    out.push_str("<title>The run of a script")?;
+    if let (true, Some(first), Some(last)) = (part.is_cut, part.rows.first(), part.rows.last()) {
+        put_stamp(out, ", from line ", first.number)?;
+        put_stamp(out, " to line ", last.number)?;
+    }
+    out.push_str("</title>\n")
+}
+
+/// Appends how the drawing of a part of a sheet begins: its size, and how its parts look.
+pub(crate) fn put_opening(
+    out: &mut String,
+    part: &Part<'_>,
+    width: usize,
+    height: usize,
+) -> Result<(), AllocError> {
     let head = format!(in *out.allocator();
         "<svg xmlns=\"http://www.w3.org/2000/svg\" width=\"{width}\" height=\"{height}\" viewBox=\"0 0 {width} {height}\" "
     )?;
     out.push_str(head.as_str())?;
     out.push_str("font-family=\"DejaVu Sans,Helvetica,Arial,sans-serif\" font-size=\"11\">\n")?;
-    out.push_str("<title>The run of a script</title>\n")?;
+    put_title(out, part)?;
     out.push_str(STYLE)?;
     let page = format!(in *out.allocator();
         "<rect width=\"{width}\" height=\"{height}\" fill=\"#fff\"/>\n"
@@ -47,50 +63,60 @@ pub(crate) fn put_opening(out: &mut String, layout: &Layout) -> Result<(), Alloc
     out.push_str(page.as_str())
 }
 
-// Appends the band of a region behind its keys.
-fn put_band(
-    out: &mut String,
-    layout: &Layout,
+// The keys of a region that are shown: where their columns begin and end.
+#[derive(Clone, Copy, Drop)]
+struct Band {
     region: usize,
     begins: usize,
     ends: usize,
-) -> Result<(), AllocError> {
-    let class = if region % 2 == 0 { "even" } else { "odd" };
+}
+
+// Puts the column of a key of a region behind bands: into the last where that is of its region.
+fn put_column_in(bands: &mut Vec<Band>, region: usize, column: Column) -> Result<(), AllocError> {
+    match bands.last_mut() {
+        Some(band) if band.region == region => {
+            band.ends = column.ends();
+            Ok(())
+        }
+        _ => Ok(bands.push(Band {
+            region,
+            begins: column.begins,
+            ends: column.ends(),
+        })?),
+    }
+}
+
+// A band for each region of which keys are shown.
+fn bands_of(alloc: Global, layout: &Layout, part: &Part<'_>) -> Result<Vec<Band>, AllocError> {
+    let mut bands = Vec::new(alloc);
+    'keys: for (key, column) in part.keys.iter().zip(layout.keys.as_slice()) {
+        if let (Some(key), Some(column)) = (key, column) {
+            put_column_in(&mut bands, key.region, *column)?;
+        }
+    }
+    Ok(bands)
+}
+
+// Appends the band of a region behind its keys.
+fn put_band(out: &mut String, layout: &Layout, band: Band) -> Result<(), AllocError> {
+    let class = if band.region % 2 == 0 { "even" } else { "odd" };
     let area = Area {
-        corner: at(begins, 14),
-        width: ends.saturating_sub(begins),
+        corner: at(band.begins, 14),
+        width: band.ends.saturating_sub(band.begins),
         height: layout.height.saturating_sub(20),
     };
     put_box(out, class, area)?;
     let mut name = String::from_str(*out.allocator(), "region ")?;
-    put_number(&mut name, (region as u64).saturating_add(1))?;
-    put_words(
-        out,
-        "region",
-        at(begins.saturating_add(5), 27),
-        name.as_str(),
-    )
+    put_number(&mut name, (band.region as u64).saturating_add(1))?;
+    let place = at(band.begins.saturating_add(5), 27);
+    put_words(out, "region", place, name.as_str())
 }
 
-// Whether the key at this place is the last of its region.
-fn is_last(keys: &[KeyColumn], place: usize) -> bool {
-    match (keys.get(place), keys.get(place.saturating_add(1))) {
-        (Some(key), Some(next)) => key.region != next.region,
-        _ => true,
-    }
-}
-
-// Appends a band for each region that has keys.
-fn put_bands(out: &mut String, layout: &Layout, keys: &[KeyColumn]) -> Result<(), AllocError> {
-    let mut begins = None;
-    'keys: for (place, (key, column)) in keys.iter().zip(layout.keys.as_slice()).enumerate() {
-        let from = begins.unwrap_or(column.begins);
-        begins = Some(from);
-        if is_last(keys, place) {
-            let ends = column.begins.saturating_add(column.width);
-            put_band(out, layout, key.region, from, ends)?;
-            begins = None;
-        }
+// Appends a band for each region of which keys are shown.
+fn put_bands(out: &mut String, layout: &Layout, part: &Part<'_>) -> Result<(), AllocError> {
+    let bands = bands_of(*out.allocator(), layout, part)?;
+    'bands: for band in &bands {
+        put_band(out, layout, *band)?;
     }
     Ok(())
 }
@@ -98,73 +124,67 @@ fn put_bands(out: &mut String, layout: &Layout, keys: &[KeyColumn]) -> Result<()
 // Appends the head of a column and its line.
 fn put_column(
     out: &mut String,
-    height: usize,
+    layout: &Layout,
     classes: (&str, &str),
     column: Column,
     name: &str,
 ) -> Result<(), AllocError> {
     let (head, line) = classes;
     put_words(out, head, at(column.line, HEAD), name)?;
-    let end = at(column.line, height.saturating_sub(12));
+    let end = at(column.line, layout.bottom());
     put_line(out, line, at(column.line, TOP), end)
 }
 
 // Appends the line of a session, down to the row by which it ended; and that it ended there.
-fn put_life(out: &mut String, layout: &Layout, session: &Session) -> Result<(), AllocError> {
-    let Some(column) = layout.sessions.get(session.column) else {
+fn put_life(out: &mut String, layout: &Layout, life: Life<'_>) -> Result<(), AllocError> {
+    let Some(column) = layout.sessions.get(life.column) else {
         return Ok(());
     };
-    let from = at(column.line, row_height(session.begins));
-    let Some(last) = session.ends else {
-        let end = at(column.line, layout.height.saturating_sub(12));
-        return put_line(out, "life", from, end);
+    let from = at(column.line, row_height(life.begins));
+    let Some(last) = life.ends else {
+        return put_line(out, "life", from, at(column.line, layout.bottom()));
     };
     let end = at(column.line, row_height(last)).down(9);
     put_line(out, "life", from, end)?;
-    if session.start.is_none() {
+    if life.start.is_none() {
         return Ok(());
     }
     put_line(out, "ends", end.left(8), end.right(8))
 }
 
 // Appends the name of a session at the head of its column, and its line from there on.
-fn put_name(out: &mut String, layout: &Layout, session: &Session) -> Result<(), AllocError> {
-    let Some(column) = layout.sessions.get(session.column) else {
+fn put_name(out: &mut String, layout: &Layout, life: Life<'_>) -> Result<(), AllocError> {
+    let Some(column) = layout.sessions.get(life.column) else {
         return Ok(());
     };
-    let name = shown(*out.allocator(), session.name.as_str())?;
+    let name = shown(*out.allocator(), life.name)?;
     put_words(out, "session", at(column.line, HEAD), name.as_str())?;
     let from = at(column.line, TOP);
-    put_line(
-        out,
-        "life",
-        from,
-        at(column.line, row_height(session.begins)),
-    )
+    put_line(out, "life", from, at(column.line, row_height(life.begins)))
 }
 
 // Appends the columns of sessions, and of steps of none.
-fn put_sessions(out: &mut String, layout: &Layout, sheet: &Sheet) -> Result<(), AllocError> {
-    let mut heads = 0usize;
-    'sessions: for session in &sheet.sessions {
-        if session.column == heads {
-            put_name(out, layout, session)?;
-            heads = session.column.saturating_add(1);
+fn put_sessions(out: &mut String, layout: &Layout, part: &Part<'_>) -> Result<(), AllocError> {
+    'sessions: for life in part.sessions.iter().flatten() {
+        if life.is_head {
+            put_name(out, layout, *life)?;
         }
-        put_life(out, layout, session)?;
+        put_life(out, layout, *life)?;
     }
     let classes = ("session", "life");
     match layout.system {
-        Some(column) => put_column(out, layout.height, classes, column, "(system)"),
+        Some(column) => put_column(out, layout, classes, column, "(system)"),
         None => Ok(()),
     }
 }
 
-// Appends the columns of keys.
-fn put_keys(out: &mut String, layout: &Layout, sheet: &Sheet) -> Result<(), AllocError> {
+// Appends the columns of keys that are shown.
+fn put_keys(out: &mut String, layout: &Layout, part: &Part<'_>) -> Result<(), AllocError> {
     let classes = ("key", "line");
-    'keys: for (key, column) in sheet.keys.iter().zip(layout.keys.as_slice()) {
-        put_column(out, layout.height, classes, *column, key.name.as_str())?;
+    'keys: for (key, column) in part.keys.iter().zip(layout.keys.as_slice()) {
+        if let (Some(key), Some(column)) = (key, column) {
+            put_column(out, layout, classes, *column, key.name.as_str())?;
+        }
     }
     Ok(())
 }
@@ -172,20 +192,19 @@ fn put_keys(out: &mut String, layout: &Layout, sheet: &Sheet) -> Result<(), Allo
 // Appends the column of the machine's steps, where some are shown.
 fn put_machine(out: &mut String, layout: &Layout) -> Result<(), AllocError> {
     match layout.machine {
-        Some(column) => put_column(out, layout.height, ("key", "life"), column, "(machine)"),
+        Some(column) => put_column(out, layout, ("key", "life"), column, "(machine)"),
         None => Ok(()),
     }
 }
 
-/// Appends what stands around the rows of a sheet.
+/// Appends what stands around the rows of a part of a sheet.
 pub(crate) fn put_frame(
     out: &mut String,
     layout: &Layout,
-    sheet: &Sheet,
+    part: &Part<'_>,
 ) -> Result<(), AllocError> {
-    put_opening(out, layout)?;
-    put_bands(out, layout, sheet.keys.as_slice())?;
-    put_sessions(out, layout, sheet)?;
-    put_keys(out, layout, sheet)?;
+    put_bands(out, layout, part)?;
+    put_sessions(out, layout, part)?;
+    put_keys(out, layout, part)?;
     put_machine(out, layout)
 }

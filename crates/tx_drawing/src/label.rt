@@ -1,8 +1,7 @@
 //! The words of a drawing.
 use std::alloc::{AllocError, Global};
-use tx_sheet::{
-    KeyRead, Kind, Row, SeenLock, SeenRecord, Sheet, places, put_first, put_stamp, shown,
-};
+use tx_cut::Part;
+use tx_sheet::{KeyRead, Kind, Row, SeenLock, SeenRecord, places, put_first, put_stamp, shown};
 
 /// The most places that the words over a step take.
 const MAX_LABEL: usize = 33;
@@ -19,16 +18,13 @@ fn put_cut(out: &mut String, words: &str) -> Result<(), AllocError> {
 // Appends the name of the session that a row begins, where its name does not stand at the head.
 fn put_new_name(
     out: &mut String,
-    sheet: &Sheet,
+    part: &Part<'_>,
     place: usize,
     row: &Row,
 ) -> Result<(), AllocError> {
-    let Some(session) = row.session else {
-        return Ok(());
-    };
-    match sheet.sessions.get(session) {
-        Some(found) if found.begins == place && !is_head(sheet, session) => {
-            let name = shown(*out.allocator(), found.name.as_str())?;
+    match part.life_of(row) {
+        Some(life) if life.begins == place && !life.is_head => {
+            let name = shown(*out.allocator(), life.name)?;
             out.push_str(name.as_str())?;
             out.push_str(": ")
         }
@@ -36,27 +32,15 @@ fn put_new_name(
     }
 }
 
-/// Whether a session is the first of its column: its name stands at the head.
-pub(crate) fn is_head(sheet: &Sheet, session: usize) -> bool {
-    match sheet.sessions.get(session) {
-        Some(found) => !sheet
-            .sessions
-            .iter()
-            .take(session)
-            .any(|before| before.column == found.column),
-        None => false,
-    }
-}
-
 /// A step and its reply, the beginning of what is longer, but for what is shown of a key.
 pub(crate) fn label_of(
     alloc: Global,
-    sheet: &Sheet,
+    part: &Part<'_>,
     place: usize,
     row: &Row,
 ) -> Result<String, AllocError> {
     let mut whole = String::new(alloc);
-    put_new_name(&mut whole, sheet, place, row)?;
+    put_new_name(&mut whole, part, place, row)?;
     whole.push_str(row.step.as_str())?;
     if !row.answer.is_empty() {
         whole.push_str(" \u{2192} ")?;

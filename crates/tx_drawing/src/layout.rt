@@ -1,7 +1,8 @@
 //! Where the rows and columns of a drawing stand, in its units.
 use crate::label::{lock_words, machine_words, read_words, record_words};
 use std::alloc::{AllocError, Global};
-use tx_sheet::{Change, KeyRead, Row, RowKind, Sheet, places, shown};
+use tx_cut::{HiddenLock, Part, ShownRow};
+use tx_sheet::{Change, KeyColumn, KeyRead, Row, RowKind, places, shown};
 
 /// Where the heads of columns stand.
 pub(crate) const HEAD: usize = 48;
@@ -11,6 +12,9 @@ pub(crate) const TOP: usize = 58;
 
 /// How far down a row is from the one before.
 const ROW_HEIGHT: usize = 32;
+
+/// How far above a row stands what lines before it changed that are not shown.
+const BEFORE_ROW: usize = 10;
 
 /// Where the first column begins: the numbers of lines stand before it.
 pub(crate) const LEFT: usize = 36;
@@ -38,7 +42,8 @@ pub(crate) struct Layout {
     pub sessions: Vec<Column>,
     /// The column of steps of no session, where there are some.
     pub system: Option<Column>,
-    pub keys: Vec<Column>,
+    /// The column of each key of the sheet that is shown.
+    pub keys: Vec<Option<Column>>,
     /// The column of the machine's steps, where some are shown.
     pub machine: Option<Column>,
     pub width: usize,
@@ -46,8 +51,8 @@ pub(crate) struct Layout {
 }
 
 impl Column {
-    // Where the next column begins.
-    fn ends(self) -> usize {
+    /// Where the next column begins.
+    pub fn ends(self) -> usize {
         self.begins.saturating_add(self.width)
     }
 }
@@ -57,6 +62,15 @@ pub(crate) fn row_height(place: usize) -> usize {
     place
         .saturating_mul(ROW_HEIGHT)
         .saturating_add(TOP + ROW_HEIGHT)
+}
+
+/// How far down it is before the row at this place: the top before the first.
+pub(crate) fn between_rows(place: usize) -> usize {
+    if place == 0 {
+        TOP
+    } else {
+        row_height(place).saturating_sub(BEFORE_ROW)
+    }
 }
 
 // The column of steps of a session, whose widest words take so many places.
@@ -82,16 +96,16 @@ fn key_column(begins: usize, widest: usize) -> Column {
 }
 
 // Whether a row is a step in this column of sessions, or of no session.
-fn is_in(sheet: &Sheet, row: &Row, column: Option<usize>) -> bool {
-    row.kind == RowKind::Step && sheet.column_of(row) == column
+fn is_in(part: &Part<'_>, row: &Row, column: Option<usize>) -> bool {
+    row.kind == RowKind::Step && part.column_of(row) == column
 }
 
 // The places of the widest words over the steps in a column of sessions, or of no session; None
 // where there are no steps.
-fn widest_label(sheet: &Sheet, labels: &[String], column: Option<usize>) -> Option<usize> {
+fn widest_label(part: &Part<'_>, labels: &[String], column: Option<usize>) -> Option<usize> {
     let mut widest = None;
-    'rows: for (row, label) in sheet.rows.iter().zip(labels) {
-        if is_in(sheet, row, column) {
+    'rows: for (shown, label) in part.rows.iter().zip(labels) {
+        if is_in(part, shown.row, column) {
             widest = Some(places(label.as_str()).max(widest.unwrap_or(0)));
         }
     }
@@ -99,11 +113,11 @@ fn widest_label(sheet: &Sheet, labels: &[String], column: Option<usize>) -> Opti
 }
 
 // The places of the widest name of the sessions of a column.
-fn widest_name(alloc: Global, sheet: &Sheet, column: usize) -> Result<usize, AllocError> {
+fn widest_name(alloc: Global, part: &Part<'_>, column: usize) -> Result<usize, AllocError> {
     let mut widest = 0;
-    'sessions: for session in &sheet.sessions {
-        if session.column == column {
-            let name = shown(alloc, session.name.as_str())?;
+    'sessions: for life in part.sessions.iter().flatten() {
+        if life.column == column {
+            let name = shown(alloc, life.name)?;
             widest = places(name.as_str()).max(widest);
         }
     }
@@ -113,14 +127,14 @@ fn widest_name(alloc: Global, sheet: &Sheet, column: usize) -> Result<usize, All
 // The columns of sessions, and where the next column begins.
 fn session_columns(
     alloc: Global,
-    sheet: &Sheet,
+    part: &Part<'_>,
     labels: &[String],
 ) -> Result<(Vec<Column>, usize), AllocError> {
     let mut columns = Vec::new(alloc);
     let mut begins = LEFT;
-    for place in 0..sheet.columns {
-        let widest = widest_label(sheet, labels, Some(place)).unwrap_or(0);
-        let column = session_column(begins, widest.max(widest_name(alloc, sheet, place)?));
+    for place in 0..part.columns {
+        let widest = widest_label(part, labels, Some(place)).unwrap_or(0);
+        let column = session_column(begins, widest.max(widest_name(alloc, part, place)?));
         begins = column.ends();
         columns.push(column)?;
     }
@@ -128,8 +142,8 @@ fn session_columns(
 }
 
 // The column of steps of no session, where there are some.
-fn system_column(sheet: &Sheet, labels: &[String], begins: usize) -> Option<Column> {
-    let widest = widest_label(sheet, labels, None)?;
+fn system_column(part: &Part<'_>, labels: &[String], begins: usize) -> Option<Column> {
+    let widest = widest_label(part, labels, None)?;
     Some(session_column(begins, widest))
 }
 
@@ -174,46 +188,82 @@ fn widen_reads(alloc: Global, widths: &mut [usize], reads: &[KeyRead]) -> Result
     Ok(())
 }
 
+// Notes what is taken beside keys by locks that stand there since lines that are not shown.
+fn widen_hidden(
+    alloc: Global,
+    widths: &mut [usize],
+    locks: &[HiddenLock<'_>],
+) -> Result<(), AllocError> {
+    'locks: for hidden in locks {
+        if let Some(lock) = hidden.lock {
+            let words = lock_words(alloc, lock, hidden.value)?;
+            widen(widths, hidden.key, places(words.as_str()));
+        }
+    }
+    Ok(())
+}
+
+// How many places a name at the head of a key's column takes, where the key is shown.
+fn name_width(key: Option<&KeyColumn>) -> usize {
+    match key {
+        Some(key) => places(key.name.as_str()).max(8),
+        None => 0,
+    }
+}
+
 // How many places the names of keys take.
-fn name_widths(alloc: Global, sheet: &Sheet) -> Result<Vec<usize>, AllocError> {
+fn name_widths(alloc: Global, part: &Part<'_>) -> Result<Vec<usize>, AllocError> {
     let mut widths = Vec::new(alloc);
-    'keys: for key in &sheet.keys {
-        widths.push(places(key.name.as_str()).max(8))?;
+    'keys: for key in &part.keys {
+        widths.push(name_width(*key))?;
     }
     Ok(widths)
+}
+
+// Notes what is taken beside keys by a row.
+fn widen_row(alloc: Global, widths: &mut [usize], row: &Row) -> Result<(), AllocError> {
+    widen_changes(alloc, widths, row.changes.as_slice())?;
+    widen_reads(alloc, widths, row.reads.as_slice())
 }
 
 // How many places are taken beside each key.
-fn key_widths(alloc: Global, sheet: &Sheet) -> Result<Vec<usize>, AllocError> {
-    let mut widths = name_widths(alloc, sheet)?;
-    'rows: for row in &sheet.rows {
-        widen_changes(alloc, widths.as_mut_slice(), row.changes.as_slice())?;
-        widen_reads(alloc, widths.as_mut_slice(), row.reads.as_slice())?;
+fn key_widths(alloc: Global, part: &Part<'_>) -> Result<Vec<usize>, AllocError> {
+    let mut widths = name_widths(alloc, part)?;
+    'rows: for (place, hidden) in part.hidden.iter().enumerate() {
+        widen_hidden(alloc, widths.as_mut_slice(), hidden.as_slice())?;
+        if let Some(shown) = part.rows.get(place) {
+            widen_row(alloc, widths.as_mut_slice(), shown.row)?;
+        }
     }
     Ok(widths)
 }
 
-// The columns of keys, and where they end.
+// The columns of keys that are shown, and where they end.
 fn key_columns(
     alloc: Global,
+    part: &Part<'_>,
     widths: &[usize],
     first: usize,
-) -> Result<(Vec<Column>, usize), AllocError> {
+) -> Result<(Vec<Option<Column>>, usize), AllocError> {
     let mut columns = Vec::new(alloc);
     let mut begins = first;
-    'keys: for width in widths {
+    'keys: for (key, width) in part.keys.iter().zip(widths) {
+        if key.is_none() {
+            columns.push(None)?;
+            continue;
+        }
         let column = key_column(begins, *width);
         begins = column.ends();
-        columns.push(column)?;
+        columns.push(Some(column))?;
     }
     Ok((columns, begins))
 }
 
 // The places of the widest words of the machine's steps at a row.
-fn machine_width(alloc: Global, rows: &[Row]) -> Result<usize, AllocError> {
+fn machine_width(alloc: Global, rows: &[ShownRow<'_>]) -> Result<usize, AllocError> {
     let mut widest = 0;
-    'rows: for row in rows {
-        let words = machine_words(alloc, row)?;
+    'rows: for shown in rows {
+        let words = machine_words(alloc, shown.row)?;
         widest = places(words.as_str()).max(widest);
     }
     Ok(widest)
@@ -222,27 +272,27 @@ fn machine_width(alloc: Global, rows: &[Row]) -> Result<usize, AllocError> {
 // The column of the machine's steps, where some are shown.
 fn machine_column(
     alloc: Global,
-    sheet: &Sheet,
+    part: &Part<'_>,
     begins: usize,
 ) -> Result<Option<Column>, AllocError> {
-    match machine_width(alloc, sheet.rows.as_slice())? {
+    match machine_width(alloc, part.rows.as_slice())? {
         0 => Ok(None),
         widest => Ok(Some(key_column(begins, widest.max(8)))),
     }
 }
 
 impl Layout {
-    /// Where the columns of a sheet stand, whose steps have these words.
-    pub fn of(alloc: Global, sheet: &Sheet, labels: &[String]) -> Result<Layout, AllocError> {
-        let (sessions, end) = session_columns(alloc, sheet, labels)?;
-        let system = system_column(sheet, labels, end);
+    /// Where the columns of a part of a sheet stand, whose steps have these words.
+    pub fn of(alloc: Global, part: &Part<'_>, labels: &[String]) -> Result<Layout, AllocError> {
+        let (sessions, end) = session_columns(alloc, part, labels)?;
+        let system = system_column(part, labels, end);
         let end = match system {
             Some(column) => column.ends(),
             None => end,
         };
-        let widths = key_widths(alloc, sheet)?;
-        let (keys, end) = key_columns(alloc, widths.as_slice(), end.saturating_add(20))?;
-        let machine = machine_column(alloc, sheet, end.saturating_add(20))?;
+        let widths = key_widths(alloc, part)?;
+        let (keys, end) = key_columns(alloc, part, widths.as_slice(), end.saturating_add(20))?;
+        let machine = machine_column(alloc, part, end.saturating_add(20))?;
         let end = match machine {
             Some(column) => column.ends(),
             None => end,
@@ -253,9 +303,9 @@ impl Layout {
             keys,
             machine,
             width: end.saturating_add(10),
-            height: row_height(sheet.rows.len()).saturating_add(6),
+            height: row_height(part.rows.len()).saturating_add(6),
         };
-        layout.widen_to_reasons(sheet);
+        layout.widen_to_reasons(part);
         Ok(layout)
     }
 
@@ -268,27 +318,33 @@ impl Layout {
     }
 
     /// Where the reason of a refused step begins.
-    pub fn reason_begins(&self, sheet: &Sheet, row: &Row) -> usize {
-        match self.sender(sheet.column_of(row)) {
+    pub fn reason_begins(&self, part: &Part<'_>, row: &Row) -> usize {
+        match self.sender(part.column_of(row)) {
             Some(column) => column.begins.saturating_add(8),
             None => LEFT,
         }
     }
 
     // Makes room for the reasons of refusals.
-    fn widen_to_reasons(&mut self, sheet: &Sheet) {
-        'rows: for row in &sheet.rows {
-            let taken = places(row.reason.as_str()).saturating_mul(SMALL_PLACE);
+    fn widen_to_reasons(&mut self, part: &Part<'_>) {
+        'rows: for shown in &part.rows {
+            let taken = places(shown.row.reason.as_str()).saturating_mul(SMALL_PLACE);
             let end = self
-                .reason_begins(sheet, row)
+                .reason_begins(part, shown.row)
                 .saturating_add(taken)
                 .saturating_add(10);
             self.width = self.width.max(end);
         }
     }
 
-    /// Where the line of a key stands.
+    /// Where the line of a key stands, where that is shown.
     pub fn key_line(&self, key: usize) -> Option<usize> {
-        Some(self.keys.get(key)?.line)
+        let column = (*self.keys.get(key)?)?;
+        Some(column.line)
+    }
+
+    /// How far down the lines of columns end.
+    pub fn bottom(&self) -> usize {
+        self.height.saturating_sub(12)
     }
 }

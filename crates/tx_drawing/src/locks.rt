@@ -1,8 +1,9 @@
 //! What changed of keys: locks as bars, write records as marks.
 use crate::label::{dropped_words, lock_words, record_words};
-use crate::layout::Layout;
+use crate::layout::{Layout, between_rows};
 use crate::markup::{Area, Point, at, put_box, put_mark, put_words};
 use std::alloc::{AllocError, Global};
+use tx_cut::HiddenLock;
 use tx_sheet::{Change, Kind, Row, SeenLock, SeenRecord, is_same_lock};
 
 // How wide a bar is.
@@ -21,8 +22,11 @@ pub(crate) struct Bars {
     open: Vec<Option<Bar>>,
 }
 
-// Appends the bar of a lock that ends so far down.
+// Appends the bar of a lock that ends so far down, if it began above that.
 fn put_bar(out: &mut String, line: usize, bar: Bar, end: usize) -> Result<(), AllocError> {
+    if end <= bar.from {
+        return Ok(());
+    }
     let class = if bar.is_async { "async" } else { "two-phase" };
     let area = Area {
         corner: at(line, bar.from).left(BAR_WIDTH / 2),
@@ -90,6 +94,29 @@ impl Bars {
         }
     }
 
+    // What stands on a key from a place on: the lock that stood there ends, and one begins, with
+    // words beside it below so many others. Below how many the next stand.
+    fn put_next(
+        &mut self,
+        alloc: Global,
+        under: &mut String,
+        over: &mut String,
+        mark: Point,
+        above: usize,
+        next: HiddenLock<'_>,
+    ) -> Result<usize, AllocError> {
+        if let Some(bar) = self.take(next.key) {
+            put_bar(under, mark.x, bar, mark.y)?;
+        }
+        let Some(lock) = next.lock else {
+            return Ok(above);
+        };
+        self.set(next.key, mark.y, lock);
+        let words = lock_words(alloc, lock, next.value)?;
+        put_beside(over, mark, above, words.as_str())?;
+        Ok(above.saturating_add(1))
+    }
+
     // What changed of the lock on a key, with words beside it below so many others: below how many
     // the next stand.
     fn put_lock(
@@ -104,16 +131,12 @@ impl Bars {
         if is_same_lock(change.old_lock, change.lock) {
             return Ok(above);
         }
-        if let Some(bar) = self.take(change.key) {
-            put_bar(under, mark.x, bar, mark.y)?;
-        }
-        let Some(lock) = change.lock else {
-            return Ok(above);
+        let next = HiddenLock {
+            key: change.key,
+            lock: change.lock,
+            value: change.value.as_str(),
         };
-        self.set(change.key, mark.y, lock);
-        let words = lock_words(alloc, lock, change.value.as_str())?;
-        put_beside(over, mark, above, words.as_str())?;
-        Ok(above.saturating_add(1))
+        self.put_next(alloc, under, over, mark, above, next)
     }
 
     // What changed of a key, in the row that is so far down, with words below so many others.
@@ -160,11 +183,32 @@ impl Bars {
         Ok(())
     }
 
+    /// What lines that are not shown changed of locks, before the row at this place: before the
+    /// first from the top on, else between two rows.
+    pub fn put_hidden(
+        &mut self,
+        alloc: Global,
+        under: &mut String,
+        over: &mut String,
+        layout: &Layout,
+        place: usize,
+        locks: &[HiddenLock<'_>],
+    ) -> Result<(), AllocError> {
+        let y = between_rows(place);
+        'locks: for hidden in locks {
+            if let Some(line) = layout.key_line(hidden.key) {
+                self.put_next(alloc, under, over, at(line, y), 0, *hidden)?;
+            }
+        }
+        Ok(())
+    }
+
     /// Appends the bars of locks that still stand.
     pub fn put_rest(&mut self, out: &mut String, layout: &Layout) -> Result<(), AllocError> {
-        let end = layout.height.saturating_sub(12);
+        let end = layout.bottom();
         'keys: for (column, open) in layout.keys.iter().zip(self.open.as_slice()) {
-            if let Some(bar) = *open {
+            if let (Some(column), Some(bar)) = (column, open) {
+                let bar = *bar;
                 put_bar(out, column.line, bar, end)?;
             }
         }

@@ -126,9 +126,19 @@ fn put_sent(
     }
 }
 
+/// Whether regions took requests of a row of which none went to a key that is shown.
+pub(crate) fn goes_beyond(layout: &Layout, row: &Row) -> bool {
+    let is_sent = row.goes_beyond || !row.targets.is_empty();
+    is_sent
+        && !row
+            .targets
+            .iter()
+            .any(|target| layout.key_line(target.key).is_some())
+}
+
 // Appends the arrows of a request to its keys; a short one where it went to none of these.
 fn put_arrows(out: &mut String, layout: &Layout, row: &Row, from: Point) -> Result<(), AllocError> {
-    if row.goes_beyond && row.targets.is_empty() {
+    if goes_beyond(layout, row) {
         return put_way(out, row, from, from.right(24));
     }
     'targets: for target in &row.targets {

@@ -55,6 +55,12 @@ impl<J: JournalId, F: Families> Sender<Request<J>, tx_journal::Reply<J>> for Dir
         Ok(self.network.take(request))
     }
 
+    fn send_in(&mut self, place: &mut Option<tx_journal::Reply<J>>) {
+        if let Some(reply) = place {
+            self.network.take_in(reply);
+        }
+    }
+
     fn bounds(&self) -> &[Key] {
         self.network.bounds()
     }

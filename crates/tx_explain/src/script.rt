@@ -4,9 +4,11 @@ ghost use Rattle.std.specs.Io.KnownBytes.{Appends, Keeps};
 ghost use Rattle.tx_text.specs.Lines.{lines_of as lines_in};
 ghost use Rattle.tx_explain.specs.Explained.{Shows, Explains};
 
+use crate::options::{PictureForm, PictureOptions};
 use std::alloc::{AllocError, Global};
 use std::io::{BufRead, ErrorKind, Write};
 use tx_cells::{Families, Makes};
+use tx_cut::part_of;
 use tx_drawing::svg_of;
 use tx_film::{Film, film_lines, keys_of, lines_of};
 use tx_page::page_of;
@@ -15,25 +17,6 @@ use tx_script::{Broken, End, SessionStage};
 use tx_sheet::sheet_of;
 use tx_text::{finish, put_fault, send};
 use tx_types::Key;
-
-/// What a picture is.
-#[derive(Clone, Copy, Debug, PartialEq, Eq)]
-pub enum PictureForm {
-    /// Lines of text.
-    Text,
-    /// An SVG.
-    Drawing,
-    /// An HTML page, with the machine's steps.
-    Page,
-}
-
-/// What a picture shows, and how.
-#[derive(Clone, Copy, Debug, PartialEq, Eq)]
-pub struct PictureOptions {
-    pub form: PictureForm,
-    /// Whether with the machine's steps, each at the line that made it. A page has them always.
-    pub machine: bool,
-}
 
 /// Where a script stopped that is at fault, for who tells why.
 #[derive(Debug, Drop)]
@@ -67,28 +50,29 @@ fn read_all<R: BufRead>(alloc: Global, reader: &mut R) -> Result<Vec<u8>, Broken
 // The text, or the drawing, of a script that was played, by its film.
 fn drawn(
     alloc: Global,
-    options: PictureOptions,
+    options: PictureOptions<'_>,
     keys: &[Key],
     lines: &[&[u8]],
     film: &Film,
 ) -> Result<Vec<u8>, Broken> {
     let sheet = sheet_of(alloc, keys, lines, film, options.machine)?;
+    let part = part_of(alloc, &sheet, keys, options.cut)?;
     if options.form == PictureForm::Drawing {
-        Ok(svg_of(alloc, &sheet)?.into_bytes())
+        Ok(svg_of(alloc, &part)?.into_bytes())
     } else {
-        Ok(text_of(alloc, &sheet)?.into_bytes())
+        Ok(text_of(alloc, &part, options.width)?.into_bytes())
     }
 }
 
 // The picture of a script that was played, by its film.
 fn picture(
     alloc: Global,
-    options: PictureOptions,
+    options: PictureOptions<'_>,
     keys: &[Key],
     lines: &[&[u8]],
     film: &Film,
 ) -> Result<Vec<u8>, Broken>
-    ensures { IfOk result (λ text. Shows options.form (map (λ line. line.now) lines.now) film.now text.items) }
+    ensures { IfOk result (λ text. Shows options.entry.form (map (λ line. line.now) lines.now) film.now text.items) }
 {
     match options.form {
         PictureForm::Page => page_of(alloc, keys, lines, film),
@@ -135,14 +119,14 @@ fn write_all<W: Write>(writer: &mut W, text: &[u8]) -> Result<(), Broken>
 pub fn explain<F: Families + Drop, M: Makes<F>, R: BufRead, W: Write>(
     alloc: Global,
     make: &M,
-    options: PictureOptions,
+    options: PictureOptions<'_>,
     reader: &mut R,
     writer: &mut W,
     stop: &mut Option<ScriptStop>,
 ) -> Result<End, Broken>
     // Not broken off, it has written a text of the play; a page of just its film.
     ensures ends { IfOk result (λ end. IfSome (R.remaining reader.old)
-        (λ input. Explains options.form (lines_in input) (W.contents writer.old) (W.contents writer.new) end)) }
+        (λ input. Explains options.entry.form (lines_in input) (W.contents writer.old) (W.contents writer.new) end)) }
     // Broken off by anything but a write, it has written nothing.
     ensures breaks { IfErr result (λ why. why ≢ Broken.Output → Keeps (W.contents writer.old) (W.contents writer.new)) }
 {

@@ -1,7 +1,8 @@
 -- What is filmed goes on by a line, and ends.
 use Rattle.std.proofs.Common.{◌≡◌, ◌≤◌, ◌<◌, ◌+◌, ℕ, List, [], ◌∷◌, ◌++◌, length, reverse, Option, Some, None, option_map, is_some, true, Ok, Err, inl, inr, refl, sym, ap, subst, ◌∙◌, append-nil, take, take_all, arith}
-use Rattle.std.specs.Prelude.{◌⊎◌, IfSome}
-use Rattle.std.proofs.lemmas.List.{length-append, length-reverse, append_assoc, reverse-append}
+use Rattle.std.specs.Prelude.{◌⊎◌, IfSome, All}
+use Rattle.std.proofs.lemmas.List.{length-append, length-reverse, append_assoc, reverse-append, reverse-reverse}
+use Rattle.std.proofs.lemmas.List.Elements.{All-same, All-nil}
 use Rattle.std.proofs.Math.Seq.{take-append_seam}
 use Rattle.serde_json.specs.Data.{Items}
 use Rattle.tx_types.specs.declared.fault.Cause.{Cause}
@@ -16,6 +17,7 @@ use Rattle.tx_trace.specs.Takings.{takings, AreTakings}
 use Rattle.tx_trace.specs.Traces.{Noted, Traces}
 use Rattle.tx_network.specs.Networks.{NetworkParts, IsTraced, takings_in}
 use Rattle.tx_core.proofs.Basics.{some_same}
+use Rattle.tx_core.proofs.seats.Beginnings.{begins_all}
 use Rattle.tx_trace.specs.declared.taken.Taking.{Taking}
 use Rattle.tx_network.proofs.Traces.{traced_same}
 use Rattle.tx_engine.specs.Semantics.{EngineState, opening}
@@ -30,8 +32,10 @@ use Rattle.tx_script.specs.Players.{PlayerState, after, HasPlayed, IsFault, IsRe
 use Rattle.tx_script.proofs.PlayReplies.{is_play}
 use Rattle.tx_script.proofs.LineNumbers.{line_grew}
 use Rattle.tx_film.specs.declared.frame.Frame.{Frame}
-use Rattle.tx_film.specs.Films.{FilmParts, words_of, replies_from, Led, IsFrame, Reel, first_lines, Films}
-use Rattle.tx_film.specs.Filmed.{Counted, HasFilmed, Stands, Halts, StopsAt, Halted, Ended}
+use Rattle.tx_film.specs.declared.frame.KeyShown.{KeyShown}
+use Rattle.tx_film.specs.Films.{FilmParts, words_of, replies_from, Led, StandsSo, Reel, first_lines, Films}
+use Rattle.tx_film.specs.Filmed.{Counted, IsShot, Shots, AreShown, HasFilmed, Stands, Halts, StopsAt, Halted, Ended}
+use Rattle.tx_film.proofs.Cuts.{cut_reel}
 
 -- one frame more
 replies_behind : (n : ℕ) (fs : List Frame) (f : Frame)
@@ -71,19 +75,19 @@ module _ (bounds : List Key) (network : NetworkParts) (took made : ℕ) (c : Cou
   counted_steps = c.steps ∙ ap (λ ss. length ss) of_trace.0.shadows
 
 -- one frame more, with its line
-reel_on : (bounds : List Key) (frames : List Frame) (lines : List (List ℕ)) (f : Frame) (line : List ℕ)
-    (a b : EngineState) → IsFrame bounds (length frames + 1) line a b f
-    → Reel bounds (reverse frames) (reverse lines) a
-    → Reel bounds (reverse (frames ++ f ∷ [])) (reverse (lines ++ line ∷ [])) b
-reel_on bounds frames lines f line a b is reel =
-    subst (λ fs. Reel bounds fs (reverse (lines ++ line ∷ [])) b) (sym (reverse-append frames (f ∷ [])))
-    (subst (λ ls. Reel bounds (f ∷ reverse frames) ls b) (sym (reverse-append lines (line ∷ [])))
-    (a, subst (λ n. IsFrame bounds (n + 1) line a b f) (sym (length-reverse frames)) is, reel))
+reel_on : (bounds shown : List Key) (frames : List Frame) (lines : List (List ℕ)) (f : Frame) (line : List ℕ)
+    (a b : EngineState) → IsShot bounds shown (length frames + 1) line a b f
+    → Shots bounds shown (reverse frames) (reverse lines) a
+    → Shots bounds shown (reverse (frames ++ f ∷ [])) (reverse (lines ++ line ∷ [])) b
+reel_on bounds shown frames lines f line a b is reel =
+    subst (λ fs. Shots bounds shown fs (reverse (lines ++ line ∷ [])) b) (sym (reverse-append frames (f ∷ [])))
+    (subst (λ ls. Shots bounds shown (f ∷ reverse frames) ls b) (sym (reverse-append lines (line ∷ [])))
+    (a, subst (λ n. IsShot bounds shown (n + 1) line a b f) (sym (length-reverse frames)) is, reel))
 
-module _ (bounds : List Key) where
+module _ (bounds shown : List Key) where
   -- nothing was filmed yet
   pub begun : (p : PlayerState) → HasPlayed bounds [] [] p → IsTraced p.engine.network
-      → engine_state p.engine ≡ opening MAX_LIVE_SESSIONS → HasFilmed bounds [] [] p
+      → engine_state p.engine ≡ opening MAX_LIVE_SESSIONS → HasFilmed bounds shown [] [] p
   begun p played traced begins = record {
     played = played;
     many = refl;
@@ -101,7 +105,7 @@ module _ (bounds : List Key) where
     newest = λ le. refl;
     state = λ le. refl;
     trace = refl;
-    films = λ lines frames h. h;
+    played = λ lines done h. h;
   }
 
   pub stands_on : (p q r : PlayerState) → Stands bounds p q → Stands bounds q r → Stands bounds p r
@@ -112,7 +116,7 @@ module _ (bounds : List Key) where
     newest = λ le. b.newest le ∙ a.newest (b.before le);
     state = λ le. b.state le ∙ a.state (b.before le);
     trace = b.trace ∙ a.trace;
-    films = λ lines frames h. b.films lines frames (a.films lines frames h);
+    played = λ lines done h. b.played lines done (a.played lines done h);
   }
 
   -- a key was shown
@@ -126,14 +130,7 @@ module _ (bounds : List Key) where
     newest = same.newest;
     state = same.state;
     trace = same.trace;
-    films = λ lines frames h. record {
-      played = played lines (replies_from 0 frames) h.played;
-      many = h.many;
-      traced = λ le. traced_same p.engine.network q.engine.network (same.newest le) same.trace
-          (h.traced (same.before le));
-      reel = λ le run. subst (Reel bounds (reverse frames) (reverse lines)) (sym (same.state le))
-          (h.reel (same.before le) (subst (IsWorldRun bounds) (same.newest le) run));
-    };
+    played = played;
   }
 
   -- ---- a line
@@ -146,36 +143,51 @@ module _ (bounds : List Key) where
         → HasPlayed bounds (lines ++ line ∷ []) (done ++ (mid.number, reply_words reply) ∷ []) mid)
         → (length mid.engine.network.newest ≤ own mid.engine → IsReplied bounds p line reply mid)
         → Counted mid.engine.network f.takings f.steps
-        → Stands bounds mid q → (lines : List (List ℕ)) → HasFilmed bounds lines frames p
-        → HasFilmed bounds (lines ++ line ∷ []) (frames ++ f ∷ []) q
-    filmed_on frames f reply said many number plays replied counted stands lines h =
-        stands.films (lines ++ line ∷ []) (frames ++ f ∷ []) (record {
-          played = subst (λ rs. HasPlayed bounds (lines ++ line ∷ []) rs mid)
-              (sym (replies_on frames f mid.number (number ∙ ap (λ n. n + 1) many)
-              ∙ ap (λ r. replies_from 0 frames ++ (mid.number, words_of r) ∷ []) said))
-              (plays lines (replies_from 0 frames) h.played);
-          many = length-append frames (f ∷ []) ∙ (ap (λ n. n + 1) h.many ∙ sym (length-append lines (line ∷ [])));
-          traced = λ le. traced.traced le (h.traced (traced.before le));
-          reel = λ le run. reel_on bounds frames lines f line (engine_state p.engine) (engine_state mid.engine)
-              (shot le run) (h.reel (traced.before le) (runs_begin bounds p.engine.network.newest
-              mid.engine.network.newest (grew le) run));
-        })
+        → Stands bounds mid q → AreShown bounds shown q.engine f.keys.items → (lines : List (List ℕ))
+        → HasFilmed bounds shown lines frames p
+        → HasFilmed bounds shown (lines ++ line ∷ []) (frames ++ f ∷ []) q
+    filmed_on frames f reply said many number plays replied counted stands shows lines h = record {
+      played = stands.played (lines ++ line ∷ []) (replies_from 0 (frames ++ f ∷ []))
+          (subst (λ rs. HasPlayed bounds (lines ++ line ∷ []) rs mid)
+          (sym (replies_on frames f mid.number (number ∙ ap (λ n. n + 1) many)
+          ∙ ap (λ r. replies_from 0 frames ++ (mid.number, words_of r) ∷ []) said))
+          (plays lines (replies_from 0 frames) h.played));
+      many = length-append frames (f ∷ []) ∙ (ap (λ n. n + 1) h.many ∙ sym (length-append lines (line ∷ [])));
+      traced = λ le. traced_same mid.engine.network q.engine.network (stands.newest le) stands.trace
+          (here (stands.before le));
+      reel = λ le run. subst (Shots bounds shown (reverse (frames ++ f ∷ [])) (reverse (lines ++ line ∷ [])))
+          (sym (stands.state le)) (rolls (stands.before le) (subst (IsWorldRun bounds) (stands.newest le) run)
+          (subst (λ n. All (StandsSo bounds shown n) f.keys.items) (stands.newest le) (shows le)));
+    }
       where
+        here : length mid.engine.network.newest ≤ own mid.engine → IsTraced mid.engine.network
+        here le = traced.traced le (h.traced (traced.before le))
+
         grew : length mid.engine.network.newest ≤ own mid.engine
             → Begins p.engine.network.newest mid.engine.network.newest
         grew le = line_grew bounds line p.number p.engine mid.engine reply (replied le)
 
         shot : length mid.engine.network.newest ≤ own mid.engine → IsWorldRun bounds mid.engine.network.newest
-            → IsFrame bounds (length frames + 1) line (engine_state p.engine) (engine_state mid.engine) f
-        shot le run = record {
+            → All (StandsSo bounds shown mid.engine.network.newest) f.keys.items
+            → IsShot bounds shown (length frames + 1) line (engine_state p.engine) (engine_state mid.engine) f
+        shot le run keys = record {
           led = subst (Led bounds (length frames + 1) line (engine_state p.engine) (engine_state mid.engine)) (sym said)
               (subst (λ n. Led bounds (n + 1) line (engine_state p.engine) (engine_state mid.engine) (Ok reply)) many
               (replied le));
+          grew = grew le;
           takings = counted_takings bounds mid.engine.network f.takings f.steps counted
               (traced.traced le (h.traced (traced.before le))) run;
           steps = counted_steps bounds mid.engine.network f.takings f.steps counted
               (traced.traced le (h.traced (traced.before le))) run;
+          keys = keys;
         }
+
+        rolls : length mid.engine.network.newest ≤ own mid.engine → IsWorldRun bounds mid.engine.network.newest
+            → All (StandsSo bounds shown mid.engine.network.newest) f.keys.items
+            → Shots bounds shown (reverse (frames ++ f ∷ [])) (reverse (lines ++ line ∷ [])) (engine_state mid.engine)
+        rolls le run keys = reel_on bounds shown frames lines f line (engine_state p.engine) (engine_state mid.engine)
+            (shot le run keys) (h.reel (traced.before le) (runs_begin bounds p.engine.network.newest
+            mid.engine.network.newest (grew le) run))
 
     -- it is a fault
     pub stopped : (frames : List Frame) (f : Frame) (cause : Cause) → f.reply ≡ Err cause → p.number ≡ length frames
@@ -185,10 +197,10 @@ module _ (bounds : List Key) where
         → IsFault bounds p line cause))
         → ((lines : List (List ℕ)) (done : List (ℕ × Items)) → HasPlayed bounds lines done p
         → HasPlayed bounds lines done mid)
-        → Counted p.engine.network f.takings f.steps
-        → (lines : List (List ℕ)) → HasFilmed bounds lines frames p
-        → StopsAt bounds lines frames (frames ++ f ∷ []) line cause mid
-    stopped frames f cause said many number some state faults stays counted lines h = record {
+        → Counted p.engine.network f.takings f.steps → f.keys.items ≡ []
+        → (lines : List (List ℕ)) → HasFilmed bounds shown lines frames p
+        → StopsAt bounds shown lines frames (frames ++ f ∷ []) line cause mid
+    stopped frames f cause said many number some state faults stays counted none lines h = record {
       filmed = record {
         played = stays lines (replies_from 0 frames) h.played;
         many = h.many;
@@ -197,13 +209,13 @@ module _ (bounds : List Key) where
       };
       halts = halts faults;
       many = length-append frames (f ∷ []) ∙ ap (λ n. n + 1) h.many;
-      reel = λ le run. reel_on bounds frames lines f line (engine_state mid.engine) (engine_state mid.engine)
+      reel = λ le run. reel_on bounds shown frames lines f line (engine_state mid.engine) (engine_state mid.engine)
           (shot le run) (still le run);
       replies = replies_on frames f (mid.number + 1) (ap (λ n. n + 1) (number ∙ many))
           ∙ ap (λ r. replies_from 0 frames ++ (mid.number + 1, words_of r) ∷ []) said;
     } where
       halts : (((cause ≡ causes.Lines) × (p.left ≡ 0)) ⊎ (length mid.engine.network.newest ≤ own mid.engine
-          → IsFault bounds p line cause)) → Halts bounds mid line cause
+          → IsFault bounds p line cause)) → Halts bounds shown mid line cause
       halts (inl spent) le refused = absurd (omega (arith, some, spent.1))
       halts (inr fault) le refused =
           ap (λ n. line_turn bounds refused (n + 1) line (engine_state mid.engine)) number
@@ -217,24 +229,27 @@ module _ (bounds : List Key) where
       newest le = ap (λ (s : EngineState). s.network.history) (state le)
 
       still : length mid.engine.network.newest ≤ own mid.engine → IsWorldRun bounds mid.engine.network.newest
-          → Reel bounds (reverse frames) (reverse lines) (engine_state mid.engine)
-      still le run = subst (Reel bounds (reverse frames) (reverse lines)) (sym (state le))
+          → Shots bounds shown (reverse frames) (reverse lines) (engine_state mid.engine)
+      still le run = subst (Shots bounds shown (reverse frames) (reverse lines)) (sym (state le))
           (h.reel (traced.before le) (subst (IsWorldRun bounds) (newest le) run))
 
       shot : length mid.engine.network.newest ≤ own mid.engine → IsWorldRun bounds mid.engine.network.newest
-          → IsFrame bounds (length frames + 1) line (engine_state mid.engine) (engine_state mid.engine) f
+          → IsShot bounds shown (length frames + 1) line (engine_state mid.engine) (engine_state mid.engine) f
       shot le run = record {
         led = subst (Led bounds (length frames + 1) line here here) (sym said) (
           refl,
           λ refused. ap (λ n. line_turn bounds refused (n + 1) line (engine_state mid.engine))
               (sym (number ∙ many)) ∙ halts faults le refused,
         );
+        grew = begins_all mid.engine.network.newest;
         takings = counted_takings bounds p.engine.network f.takings f.steps counted
             (h.traced (traced.before le)) (subst (IsWorldRun bounds) (newest le) run)
             ∙ ap (λ n. length (takings n)) (sym (newest le));
         steps = counted_steps bounds p.engine.network f.takings f.steps counted
             (h.traced (traced.before le)) (subst (IsWorldRun bounds) (newest le) run)
             ∙ ap (λ n. length (shadow n)) (sym (newest le));
+        keys = All-same (StandsSo bounds shown mid.engine.network.newest) f.keys.items [] none
+            (All-nil (StandsSo bounds shown mid.engine.network.newest));
       }
 
   -- ---- the end
@@ -257,8 +272,17 @@ module _ (bounds : List Key) where
       ended = ended;
     }
 
-    ends_well : (lines : List (List ℕ)) (frames : List Frame) → HasFilmed bounds lines frames p
-        → Films bounds lines (parts frames Well)
+    -- what the frames count, the film has
+    rolled : (frames : List Frame) (ended : End) (lines : List (List ℕ)) → IsTraced p.engine.network
+        → Shots bounds shown (reverse frames) lines (engine_state p.engine)
+        → Reel bounds shown (parts frames ended) (reverse frames) lines (engine_state p.engine)
+    rolled frames ended lines traced shots = cut_reel bounds shown (parts frames ended) (engine_state p.engine)
+        (sym (took traced)) ((traces traced).0.shadows) (reverse frames) [] lines (engine_state p.engine)
+        (sym (append-nil (reverse (reverse frames)) ∙ reverse-reverse frames))
+        (begins_all p.engine.network.newest) shots
+
+    ends_well : (lines : List (List ℕ)) (frames : List Frame) → HasFilmed bounds shown lines frames p
+        → Films bounds shown lines (parts frames Well)
     ends_well lines frames h =
         let soon = h.played.so_far came in
         let last : Played = after (replies_from 0 frames) (ending (engine_state p.engine)) in
@@ -273,13 +297,14 @@ module _ (bounds : List Key) where
           takings = sym (took (h.traced came));
           steps = (traces (h.traced came)).0.shadows;
           last = engine_state p.engine;
-          reel = subst (λ ls. Reel bounds (reverse frames) (reverse ls) (engine_state p.engine))
-              (sym (take_all (length frames) lines (omega (arith, h.many)))) (h.reel came run);
+          reel = rolled frames Well (reverse (first_lines frames lines)) (h.traced came)
+              (subst (λ ls. Shots bounds shown (reverse frames) (reverse ls) (engine_state p.engine))
+              (sym (take_all (length frames) lines (omega (arith, h.many)))) (h.reel came run));
           whole = refl;
         }
 
-    ends_faulted : (lines : List (List ℕ)) (frames : List Frame) → Halted bounds lines frames p
-        → Films bounds lines (parts frames Faulted)
+    ends_faulted : (lines : List (List ℕ)) (frames : List Frame) → Halted bounds shown lines frames p
+        → Films bounds shown lines (parts frames Faulted)
     ends_faulted lines frames h =
         let soon = h.stops.filmed.played.so_far came in
         let end : Played = faulted (engine_state p.engine) (p.number + 1) h.cause in
@@ -299,19 +324,20 @@ module _ (bounds : List Key) where
           takings = sym (took (h.stops.filmed.traced came));
           steps = (traces (h.stops.filmed.traced came)).0.shadows;
           last = engine_state p.engine;
-          reel = subst (λ ls. Reel bounds (reverse frames) (reverse ls) (engine_state p.engine)) (sym (played h))
-              (h.stops.reel came run);
+          reel = rolled frames Faulted (reverse (first_lines frames lines)) (h.stops.filmed.traced came)
+              (subst (λ ls. Shots bounds shown (reverse frames) (reverse ls) (engine_state p.engine)) (sym (played h))
+              (h.stops.reel came run));
           whole = refl;
         }
       where
-        played : (h : Halted bounds lines frames p) → first_lines frames lines ≡ h.first ++ h.line ∷ []
+        played : (h : Halted bounds shown lines frames p) → first_lines frames lines ≡ h.first ++ h.line ∷ []
         played h = ap (λ ls. take (length frames) ls) (h.split ∙ sym (append_assoc h.first (h.line ∷ []) h.rest))
             ∙ (ap (λ n. take n ((h.first ++ h.line ∷ []) ++ h.rest))
             (h.stops.many ∙ sym (length-append h.first (h.line ∷ [])))
             ∙ take-append_seam (h.first ++ h.line ∷ []) h.rest)
 
-    pub films : (lines : List (List ℕ)) (frames : List Frame) (ended : End) → Ended bounds lines frames ended p
-        → Films bounds lines (parts frames ended)
+    pub films : (lines : List (List ℕ)) (frames : List Frame) (ended : End) → Ended bounds shown lines frames ended p
+        → Films bounds shown lines (parts frames ended)
     films lines frames Well h = ends_well lines frames h
     films lines frames Faulted h = ends_faulted lines frames h
     films lines frames No h = absurd h

@@ -1,20 +1,26 @@
 -- What a player has played that was filmed.
-use Rattle.std.specs.Prelude.{◌≡◌, ◌≤◌, ℕ, ◌+◌, List, [], ◌∷◌, ◌++◌, Bool, reverse, length, Some}
+use Rattle.std.specs.Prelude.{◌≡◌, ◌≤◌, ℕ, ◌+◌, List, [], ◌∷◌, ◌++◌, Bool, reverse, length, All, Some}
 use Rattle.tx_types.specs.declared.fault.Cause.{Cause}
 use Rattle.tx_types.specs.declared.key.Key.{Key}
+use Rattle.tx_types.specs.declared.limits.TheConstants.{MAX_LIVE_SESSIONS}
 use Rattle.tx_core.specs.Worlds.{IsWorldRun}
+use Rattle.tx_core.specs.Histories.{Begins}
+use Rattle.tx_core.specs.Shadow.{shadow}
 use Rattle.tx_trace.specs.declared.taken.TakenLog.{TakenLog}
+use Rattle.tx_trace.specs.Takings.{takings}
 use Rattle.tx_trace.specs.Traces.{Noted}
+use Rattle.serde_json.specs.Data.{Items}
 use Rattle.tx_network.specs.Networks.{NetworkParts, IsTraced}
-use Rattle.tx_engine.specs.Semantics.{stops}
-use Rattle.tx_engine.specs.Slots.{engine_state, own}
+use Rattle.tx_engine.specs.Semantics.{EngineState, opening, stops}
+use Rattle.tx_engine.specs.Slots.{Held, engine_state, own}
 use Rattle.tx_text.specs.declared.end.End.{End}
 use Rattle.tx_text.specs.declared.end.End.TheVariants.{Well, Faulted, No}
 use Rattle.tx_text.specs.Faults.{fault_words}
 use Rattle.tx_script.specs.Play.{line_turn}
 use Rattle.tx_script.specs.Players.{PlayerState, HasPlayed}
-use Rattle.tx_film.specs.Films.{replies_from, Reel}
+use Rattle.tx_film.specs.Films.{replies_from, Led, StandsSo}
 use Rattle.tx_film.specs.declared.frame.Frame.{Frame}
+use Rattle.tx_film.specs.declared.frame.KeyShown.{KeyShown}
 
 -- so many requests were taken, and so many steps made, by what is kept of them
 pub record Counted (network : NetworkParts) (took made : ℕ) : Type 0 where
@@ -26,15 +32,6 @@ pub record Counted (network : NetworkParts) (took made : ℕ) : Type 0 where
   pub steps : made ≡ length trace.steps
 
 module _ (bounds : List Key) where
-  -- The player has played these lines, and the frames have the replies. Where nobody else acted,
-  -- its trace is that of what has happened, and the frames are those of what the lines led to.
-  pub record HasFilmed (lines : List (List ℕ)) (frames : List Frame) (p : PlayerState) : Type 0 where
-    pub played : HasPlayed bounds lines (replies_from 0 frames) p
-    pub many : length frames ≡ length lines
-    pub traced : length p.engine.network.newest ≤ own p.engine → IsTraced p.engine.network
-    pub reel : length p.engine.network.newest ≤ own p.engine → IsWorldRun bounds p.engine.network.newest
-        → Reel bounds (reverse frames) (reverse lines) (engine_state p.engine)
-
   -- a player stands where another does: what one has played, so has the other, and where nobody
   -- else acted, all is as it was
   pub record Stands (old new : PlayerState) : Type 0 where
@@ -47,7 +44,38 @@ module _ (bounds : List Key) where
     pub state : length new.engine.network.newest ≤ own new.engine
         → engine_state new.engine ≡ engine_state old.engine
     pub trace : new.engine.network.trace ≡ old.engine.network.trace
-    pub films : (lines : List (List ℕ)) (frames : List Frame) → HasFilmed lines frames old → HasFilmed lines frames new
+    pub played : (lines : List (List ℕ)) (done : List (ℕ × Items)) → HasPlayed bounds lines done old
+        → HasPlayed bounds lines done new
+
+module _ (bounds shown : List Key) where
+  -- where nobody else acted, what is said of keys stands on them
+  abbrev pub AreShown : Held → List KeyShown → Type 0
+  AreShown e said = length e.network.newest ≤ own e → All (StandsSo bounds shown e.network.newest) said
+
+  -- the frame of a line, which led from one engine state to another: how many requests regions had
+  -- taken then, and how many steps of the machine there were
+  pub record IsShot (number : ℕ) (line : List ℕ) (a b : EngineState) (f : Frame) : Type 0 where
+    pub led : Led bounds number line a b f.reply
+    pub grew : Begins a.network.history b.network.history
+    pub takings : f.takings ≡ length (takings b.network.history)
+    pub steps : f.steps ≡ length (shadow b.network.history)
+    pub keys : All (StandsSo bounds shown b.network.history) f.keys.items
+
+  -- frames and their lines, both newest first, from the beginning up to an engine state
+  abbrev pub Shots : List Frame → List (List ℕ) → EngineState → Type 0
+  Shots [] lines s = (lines ≡ []) × (s ≡ opening MAX_LIVE_SESSIONS)
+  Shots (f ∷ fs) [] s = ⊥
+  Shots (f ∷ fs) (line ∷ lines) s = (before : EngineState) × IsShot (length fs + 1) line before s f
+      × Shots fs lines before
+
+  -- The player has played these lines, and the frames have the replies. Where nobody else acted,
+  -- its trace is that of what has happened, and the frames are those of what the lines led to.
+  pub record HasFilmed (lines : List (List ℕ)) (frames : List Frame) (p : PlayerState) : Type 0 where
+    pub played : HasPlayed bounds lines (replies_from 0 frames) p
+    pub many : length frames ≡ length lines
+    pub traced : length p.engine.network.newest ≤ own p.engine → IsTraced p.engine.network
+    pub reel : length p.engine.network.newest ≤ own p.engine → IsWorldRun bounds p.engine.network.newest
+        → Shots (reverse frames) (reverse lines) (engine_state p.engine)
 
   -- the next line is a fault where the player stands
   abbrev pub Halts : PlayerState → List ℕ → Cause → Type 0
@@ -62,7 +90,7 @@ module _ (bounds : List Key) where
     pub replies : replies_from 0 frames ≡ replies_from 0 before ++ (p.number + 1, fault_words cause) ∷ []
     pub many : length frames ≡ length lines + 1
     pub reel : length p.engine.network.newest ≤ own p.engine → IsWorldRun bounds p.engine.network.newest
-        → Reel bounds (reverse frames) (reverse (lines ++ line ∷ [])) (engine_state p.engine)
+        → Shots (reverse frames) (reverse (lines ++ line ∷ [])) (engine_state p.engine)
 
   -- the lines were filmed up to a fault
   pub record Halted (lines : List (List ℕ)) (frames : List Frame) (p : PlayerState) : Type 0 where

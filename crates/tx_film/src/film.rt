@@ -1,12 +1,13 @@
 //! A script is played line by line, and what each line did is noted.
-ghost use Rattle.std.specs.Prelude.{◌≡◌, ◌+◌, ◌<◌, ◌++◌, ◌∷◌, [], ℕ, List, Ok, Err, All, map, vec_len, length, IfOk, IfNone, IfSome};
+ghost use Rattle.std.specs.Prelude.{◌≡◌, ◌+◌, ◌<◌, ◌++◌, ◌∷◌, [], ℕ, List, Ok, Err, All, map, vec_len, length, IfOk, OnOk, IfNone, IfSome};
+ghost use Rattle.tx_types.specs.declared.key.Key.{Key as KeyOf};
 ghost use Rattle.tx_types.specs.declared.limits.TheConstants as limits;
 ghost use Rattle.tx_cells.specs.Contents.{nothing_held};
 ghost use Rattle.tx_types.specs.Keys.{AreRising};
 ghost use Rattle.tx_evidence.specs.Lines.{bounds_of};
 ghost use Rattle.tx_script.specs.Players.{IsPlayer};
 ghost use Rattle.tx_film.specs.Films.{Films};
-ghost use Rattle.tx_film.specs.Filmed.{Counted, HasFilmed, StopsAt, Ended, Stands};
+ghost use Rattle.tx_film.specs.Filmed.{Counted, AreShown, HasFilmed, StopsAt, Ended, Stands};
 
 use crate::frame::{Film, Frame, KeyShown};
 use crate::said::session_named;
@@ -85,6 +86,32 @@ fn places_of(
     Ok(places)
 }
 
+// Puts what stands on the key at this place behind what is shown.
+fn show_at<J: JournalId, F: Families + Drop>(
+    player: &mut Player<J, F>,
+    keys: &[Key],
+    place: usize,
+    shown: &mut Vec<KeyShown>,
+) -> Result<(), Broken>
+    requires { IsPlayer J.bounds player.old }
+    ensures player { IsPlayer J.bounds player.new }
+    ensures same { OnOk result (Stands J.bounds player.old player.new) }
+    ensures shows { OnOk result (AreShown J.bounds keys.now player.old.engine shown.old.items
+        → AreShown J.bounds keys.now player.new.engine shown.new.items) }
+{
+    let Some(key) = keys.get(place) else {
+        return Ok(());
+    };
+    let Ok(copy) = player.show_key(key) else {
+        return Err(Broken::Memory);
+    };
+    shown.push(KeyShown {
+        key: place,
+        shown: copy,
+    })?;
+    Ok(())
+}
+
 // What stands on the keys at these places.
 fn show_keys<J: JournalId, F: Families + Drop>(
     alloc: Global,
@@ -95,18 +122,11 @@ fn show_keys<J: JournalId, F: Families + Drop>(
     requires { IsPlayer J.bounds player.old }
     ensures player { IsPlayer J.bounds player.new }
     ensures same { IfOk result (λ _. Stands J.bounds player.old player.new) }
+    ensures shows { IfOk result (λ shown. AreShown J.bounds keys.now player.new.engine shown.items) }
 {
     let mut shown = Vec::new(alloc);
     'places: for place in places {
-        if let Some(key) = keys.get(*place) {
-            let Ok(copy) = player.show_key(key) else {
-                return Err(Broken::Memory);
-            };
-            shown.push(KeyShown {
-                key: *place,
-                shown: copy,
-            })?;
-        }
+        show_at(player, keys, *place, &mut shown)?;
     }
     Ok(shown)
 }
@@ -207,17 +227,18 @@ fn frame_of<J: JournalId, F: Families + Drop>(
     ensures same { IfOk result (λ _. Stands J.bounds player.old player.new) }
     ensures reply { IfOk result (λ frame. frame.reply ≡ Ok reply) }
     ensures counted { IfOk result (λ frame. Counted player.old.engine.network frame.takings frame.steps) }
+    ensures shows { IfOk result (λ frame. AreShown J.bounds keys.now player.new.engine frame.keys.items) }
 {
     let (takings, steps) = counts_of(player)?;
     let places = touched_since(alloc, player, bounds, keys, before)?;
-    let keys = show_keys(alloc, player, keys, places.as_slice())?;
+    let shown = show_keys(alloc, player, keys, places.as_slice())?;
     let held = held_by(alloc, player, line, &reply)?;
     let stage = stage_then(alloc, player, line)?;
     Ok(Frame {
         reply: Ok(reply),
         takings,
         steps,
-        keys,
+        keys: shown,
         held,
         stage,
     })
@@ -242,6 +263,7 @@ fn stage_of<J: JournalId, F: Families + Drop>(
 fn fault_frame(alloc: Global, takings: usize, steps: usize, cause: Cause) -> Frame
     ensures reply { result.reply ≡ Err cause }
     ensures counts { (result.takings ≡ takings) × (result.steps ≡ steps) }
+    ensures keys { result.keys.items ≡ [] }
 {
     Frame {
         reply: Err(cause),
@@ -267,13 +289,13 @@ fn film_line<J: JournalId, F: Families + Drop>(
     requires number { player.old.number ≡ length frames.old.items }
     ensures player { IsPlayer J.bounds player.new }
     ensures goes { IfOk result (λ fault. IfNone fault ((lines : List (List ℕ))
-        → HasFilmed J.bounds lines frames.old.items player.old
-        → HasFilmed J.bounds (lines ++ line.now ∷ []) frames.new.items player.new)) }
+        → HasFilmed J.bounds keys.now lines frames.old.items player.old
+        → HasFilmed J.bounds keys.now (lines ++ line.now ∷ []) frames.new.items player.new)) }
     ensures tries { IfOk result (λ fault. IfNone fault (player.new.left + length frames.new.items ≡ 4294967295)) }
     ensures number { IfOk result (λ fault. IfNone fault (player.new.number ≡ length frames.new.items)) }
     ensures stops { IfOk result (λ fault. IfSome fault (λ cause. (lines : List (List ℕ))
-        → HasFilmed J.bounds lines frames.old.items player.old
-        → StopsAt J.bounds lines frames.old.items frames.new.items line.now cause player.new)) }
+        → HasFilmed J.bounds keys.now lines frames.old.items player.old
+        → StopsAt J.bounds keys.now lines frames.old.items frames.new.items line.now cause player.new)) }
 {
     let (takings, steps) = counts_of(player)?;
     match player.play(alloc, line)? {
@@ -299,8 +321,8 @@ fn film_of<J: JournalId, F: Families + Drop>(
 ) -> Result<Film, Broken>
     requires player { IsPlayer J.bounds player }
     requires seats { J.seats ≡ length J.bounds + 2 + limits.MAX_LIVE_SESSIONS }
-    ensures { IfOk result (λ film. (lines : List (List ℕ)) → Ended J.bounds lines frames.items end player
-        → Films J.bounds lines film) }
+    ensures { IfOk result (λ film. (shown : List KeyOf) (lines : List (List ℕ))
+        → Ended J.bounds shown lines frames.items end player → Films J.bounds shown lines film) }
 {
     let Some(trace) = player.end_film() else {
         return Err(Broken::Memory);
@@ -324,7 +346,7 @@ fn film_over<J: JournalId, F: Families + Drop>(
     requires few { vec_len families ≡ length opened.bounds + 1 }
     requires seats { opened.seats ≡ length opened.bounds + 2 + limits.MAX_LIVE_SESSIONS }
     requires empty { All (λ f. F.content f ≡ (λ k. nothing_held)) families.items }
-    ensures { IfOk result (λ film. Films opened.bounds (map (λ line. line.now) lines.now) film) }
+    ensures { IfOk result (λ film. Films opened.bounds keys.now (map (λ line. line.now) lines.now) film) }
 {
     let mut player = Player::<J, F>::filmed(alloc, opened, families)?;
     let mut frames = Vec::new(alloc);
@@ -369,7 +391,7 @@ pub fn film_lines<F: Families + Drop, M: Makes<F>>(
     keys: &[Key],
     lines: &[&[u8]],
 ) -> Result<Film, Broken>
-    ensures { IfOk result (λ film. Films (bounds_of (map (λ line. line.now) lines.now))
+    ensures { IfOk result (λ film. Films (bounds_of (map (λ line. line.now) lines.now)) keys.now
         (map (λ line. line.now) lines.now) film) }
 {
     let bounds = bounds_by(alloc, lines)?;

@@ -1,6 +1,7 @@
 //! The frames of a film, one a line.
-ghost use Rattle.std.specs.Prelude.{◌≡◌, Some, reverse, IfSome};
+ghost use Rattle.std.specs.Prelude.{◌≡◌, Some, reverse, slice_get, IfSome};
 ghost use Rattle.tx_trace.specs.declared.taken.TakenLog.{TakenLog};
+ghost use Rattle.tx_film.specs.Films.{count_in, count_before, part, takings_at, steps_at};
 
 use std::marker::Model;
 use tx_cells::ShownKey;
@@ -53,6 +54,17 @@ impl Model for Film {
     ghost Value = { FilmParts };
 
     ghost view = { λ f. film_parts f.frames.items f.trace f.end };
+}
+
+// The part from one count up to another; empty where there is no such part.
+fn part_of<T>(all: &[T], from: usize, to: usize) -> &[T]
+    ensures { result.now ≡ part all.now from to }
+{
+    if from <= to && to <= all.len() {
+        &all[from..to]
+    } else {
+        &[]
+    }
 }
 
 impl Film {
@@ -109,37 +121,45 @@ impl Film {
         self.trace.steps()
     }
 
-    // How many requests had been taken, and how many steps there were, before the line at this
-    // place.
-    fn before(&self, place: usize) -> (usize, usize) {
-        let Some(place) = place.checked_sub(1) else {
-            return (0, 0);
-        };
+    // How many requests had been taken, and how many steps there were, once the line at this place
+    // was played; none where it was not.
+    fn counts_at(&self, place: usize) -> (usize, usize)
+        ensures takings { result.0 ≡ count_in (λ f. f.takings) (slice_get self.now.frames place) }
+        ensures steps { result.1 ≡ count_in (λ f. f.steps) (slice_get self.now.frames place) }
+    {
         match self.frames.get(place) {
             Some(frame) => (frame.takings, frame.steps),
             None => (0, 0),
         }
     }
 
-    /// The requests that regions took by the line at this place, in order, with their answers.
-    pub fn takings(&self, place: usize) -> &[Taking] {
-        let (from, _) = self.before(place);
-        match (self.frames.get(place), self.trace.takings()) {
-            (Some(frame), Some(takings)) => takings.get(from..frame.takings).unwrap_or_default(),
-            _ => &[],
+    // The same before the line at this place.
+    fn counts_before(&self, place: usize) -> (usize, usize)
+        ensures takings { result.0 ≡ count_before (λ f. f.takings) self.now.frames place }
+        ensures steps { result.1 ≡ count_before (λ f. f.steps) self.now.frames place }
+    {
+        if place == 0 {
+            (0, 0)
+        } else {
+            self.counts_at(place - 1)
         }
     }
 
+    /// The requests that regions took by the line at this place, in order, with their answers.
+    pub fn takings(&self, place: usize) -> &[Taking]
+        ensures { result.now ≡ takings_at self.now place }
+    {
+        let (from, _) = self.counts_before(place);
+        let (to, _) = self.counts_at(place);
+        part_of(self.trace.takings().unwrap_or_default(), from, to)
+    }
+
     /// The steps of the machine that came with the line at this place, in order.
-    pub fn steps(&self, place: usize) -> &[Step] {
-        let (_, from) = self.before(place);
-        match self.frames.get(place) {
-            Some(frame) => self
-                .trace
-                .steps()
-                .get(from..frame.steps)
-                .unwrap_or_default(),
-            None => &[],
-        }
+    pub fn steps(&self, place: usize) -> &[Step]
+        ensures { result.now ≡ steps_at self.now place }
+    {
+        let (_, from) = self.counts_before(place);
+        let (_, to) = self.counts_at(place);
+        part_of(self.trace.steps(), from, to)
     }
 }

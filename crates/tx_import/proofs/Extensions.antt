@@ -11,6 +11,7 @@ use Rattle.tx_recording.specs.declared.recording.Act.TheVariants as act
 use Rattle.tx_recording.specs.declared.recording.Op.{Op}
 use Rattle.tx_recording.specs.declared.recording.Transaction.{Transaction}
 use Rattle.tx_import.specs.declared.name.Name.{Name}
+use Rattle.tx_import.specs.declared.name.Scalar.{Scalar}
 use Rattle.tx_import.specs.declared.names.KeyedValue.{KeyedValue}
 use Rattle.tx_import.specs.declared.said.SaidAct.{SaidAct}
 use Rattle.tx_import.specs.declared.said.SaidAct.TheVariants as said
@@ -105,10 +106,10 @@ zip_long P (x ∷ xs) (y ∷ ys) h = omega (arith, zip_long P xs ys h.1)
 
 -- ---- what was said
 
-pub values_grow : (old new : List KeyedValue) (key : ℕ) (ns : List ℕ) (names : List Name) → Grows old new
-    → AreValuesOf old key ns names → AreValuesOf new key ns names
-values_grow old new key ns names g h =
-    zip_to (IsValueOf old key) (IsValueOf new key) (λ n name is. get_grows old new n _ g is) ns names h
+pub values_grow : (old new : List KeyedValue) (key : ℕ) (ns : List ℕ) (found : List Scalar) → Grows old new
+    → AreValuesOf old key ns found → AreValuesOf new key ns found
+values_grow old new key ns found g h =
+    zip_to (IsValueOf old key) (IsValueOf new key) (λ n value is. get_grows old new n _ g is) ns found h
 
 pub act_grows : (old new : List KeyedValue) (xs ys : List ℕ) (key : ℕ) (a : Act) (s : SaidAct) → Grows old new
     → Grows xs ys → IsActSaid old xs key a s → IsActSaid new ys key a s
@@ -182,22 +183,22 @@ pub next_of : {A : Type 0} (xs : List A) (i : ℕ) (x : A) → i < length xs →
 next_of xs i x within is = take_more xs i x within ∙ ap (λ y. take i xs ++ y ∷ []) (sym is)
 
 -- one more value
-pub values_more : (mid new : List KeyedValue) (key : ℕ) (start xs ys : List ℕ) (names : List Name) (i n : ℕ)
-    (name : Name) → i < length names → name ≡ get_or names i name → Grows mid new → IsValueOf new key n name
-    → ys ≡ xs ++ n ∷ [] → ((ns : List ℕ) × (xs ≡ start ++ ns) × AreValuesOf mid key ns (take i names))
-    → ((ns : List ℕ) × (ys ≡ start ++ ns) × AreValuesOf new key ns (take (i + 1) names))
-values_more mid new key start xs ys names i n name within is g one more (ns, e, vals) =
-    let all = zip_push (IsValueOf new key) ns (take i names) n name (values_grow mid new key ns (take i names) g vals)
+pub values_more : (mid new : List KeyedValue) (key : ℕ) (start xs ys : List ℕ) (found : List Scalar) (i n : ℕ)
+    (value : Scalar) → i < length found → value ≡ get_or found i value → Grows mid new → IsValueOf new key n value
+    → ys ≡ xs ++ n ∷ [] → ((ns : List ℕ) × (xs ≡ start ++ ns) × AreValuesOf mid key ns (take i found))
+    → ((ns : List ℕ) × (ys ≡ start ++ ns) × AreValuesOf new key ns (take (i + 1) found))
+values_more mid new key start xs ys found i n value within is g one more (ns, e, vals) =
+    let all = zip_push (IsValueOf new key) ns (take i found) n value (values_grow mid new key ns (take i found) g vals)
     one in
-    let P : List Name → Type 0 = λ l. AreValuesOf new key (ns ++ n ∷ []) l in (
+    let P : List Scalar → Type 0 = λ l. AreValuesOf new key (ns ++ n ∷ []) l in (
       ns ++ n ∷ [],
       more ∙ ap (λ l. l ++ n ∷ []) e ∙ append_assoc start ns (n ∷ []),
-      subst P (sym (next_of names i name within is)) all,
+      subst P (sym (next_of found i value within is)) all,
     )
 
-pub within_more : (mid new : List KeyedValue) (key : ℕ) (xs ys : List ℕ) (n : ℕ) (name : Name) → Grows mid new
-    → IsValueOf new key n name → ys ≡ xs ++ n ∷ [] → All (λ v. v < length mid) xs → All (λ v. v < length new) ys
-within_more mid new key xs ys n name g one more all =
+pub within_more : (mid new : List KeyedValue) (key : ℕ) (xs ys : List ℕ) (n : ℕ) (value : Scalar) → Grows mid new
+    → IsValueOf new key n value → ys ≡ xs ++ n ∷ [] → All (λ v. v < length mid) xs → All (λ v. v < length new) ys
+within_more mid new key xs ys n value g one more all =
     let longer = length_grows mid new g in
     let before : All (λ v. v < length new) xs =
     All-weaker (λ v. v < length mid) (λ v. v < length new) (λ v lt. omega (arith, lt, longer)) xs all in

@@ -6,6 +6,7 @@ use Rattle.tx_recording.specs.declared.recording.Act.TheVariants as act
 use Rattle.tx_recording.specs.declared.recording.Op.{Op}
 use Rattle.tx_recording.specs.declared.recording.Transaction.{Transaction}
 use Rattle.tx_import.specs.declared.name.Name.{Name}
+use Rattle.tx_import.specs.declared.name.Scalar.{Scalar}
 use Rattle.tx_import.specs.declared.names.KeyedValue.{KeyedValue}
 use Rattle.tx_import.specs.declared.said.SaidAct.{SaidAct}
 use Rattle.tx_import.specs.declared.said.SaidAct.TheVariants as said
@@ -30,19 +31,19 @@ abbrev pub IsNameOf : List Name → ℕ → Name → Type 0
 IsNameOf names n name = slice_get names n ≡ Some name
 
 -- the value of a key that has this number
-abbrev pub IsValueOf : List KeyedValue → ℕ → ℕ → Name → Type 0
-IsValueOf values key n name = slice_get values n ≡ Some (record { key = key; name = name })
+abbrev pub IsValueOf : List KeyedValue → ℕ → ℕ → Scalar → Type 0
+IsValueOf values key n value = slice_get values n ≡ Some (record { key = key; value = value })
 
 -- these numbers are those of a key's values
-abbrev pub AreValuesOf : List KeyedValue → ℕ → List ℕ → List Name → Type 0
-AreValuesOf values key ns names = AllZip (IsValueOf values key) ns names
+abbrev pub AreValuesOf : List KeyedValue → ℕ → List ℕ → List Scalar → Type 0
+AreValuesOf values key ns found = AllZip (IsValueOf values key) ns found
 
 -- an act is what was said of it
 abbrev pub IsActSaid : List KeyedValue → List ℕ → ℕ → Act → SaidAct → Type 0
-IsActSaid values elements key (act.Append v) (said.Append name) = IsValueOf values key v name
-IsActSaid values elements key (act.Write v) (said.Write name) = IsValueOf values key v name
-IsActSaid values elements key (act.Read span) (said.Read names) = (span.first + span.count ≤ length elements)
-    × AreValuesOf values key (slice_range elements span.first (span.first + span.count)) names
+IsActSaid values elements key (act.Append v) (said.Append value) = IsValueOf values key v value
+IsActSaid values elements key (act.Write v) (said.Write value) = IsValueOf values key v value
+IsActSaid values elements key (act.Read span) (said.Read found) = (span.first + span.count ≤ length elements)
+    × AreValuesOf values key (slice_range elements span.first (span.first + span.count)) found
 IsActSaid values elements key _ _ = ⊥
 
 -- an operation is what was said of it

@@ -1,12 +1,14 @@
 -- What a line of a history says, over its JSON value. Strings stand for their UTF-8 bytes.
-use Rattle.std.specs.Prelude.{ℕ, List, [], ◌∷◌, Option, Some, None, option_map, option_and_then, is_some, unwrap_or, if◌then◌else◌, bytes_eq, codes}
+use Rattle.std.specs.Prelude.{ℕ, ℤ, List, [], ◌∷◌, Option, Some, None, option_map, option_and_then, is_some, unwrap_or, if◌then◌else◌, bytes_eq, codes}
 use Rattle.serde_json.specs.Data.{Data, Items, no_items, item}
-use Rattle.serde_json.specs.Find.{as_array, as_null, as_str, get}
-use Rattle.tx_check.specs.MachineSteps.{number_of, key_of, list_of}
+use Rattle.serde_json.specs.Find.{as_array, as_bool, as_i64, as_null, as_number, as_str, get}
+use Rattle.tx_check.specs.MachineSteps.{number_of, key_of, value_of, list_of}
 use Rattle.tx_recording.specs.declared.recording.Outcome.{Outcome}
 use Rattle.tx_recording.specs.declared.recording.Outcome.TheVariants.{Ok, Fail, Info}
 use Rattle.tx_import.specs.declared.name.Name.{Name}
 use Rattle.tx_import.specs.declared.name.Name.TheVariants.{Text, Number}
+use Rattle.tx_import.specs.declared.name.Scalar.{Scalar}
+use Rattle.tx_import.specs.declared.name.Scalar.TheVariants as scalar
 use Rattle.tx_import.specs.declared.said.SaidAct.{SaidAct}
 use Rattle.tx_import.specs.declared.said.SaidAct.TheVariants.{Append, Write, Read}
 use Rattle.tx_import.specs.declared.said.SaidOp.{SaidOp}
@@ -16,18 +18,30 @@ use Rattle.tx_import.specs.declared.said.SaidTransaction.{SaidTransaction}
 abbrev pub name_of : Data → Option Name
 name_of d = if is_some (number_of d) then option_map Number (number_of d) else option_map Text (key_of d)
 
+-- a whole number from -2^63 to 2^63 - 1
+abbrev pub signed_of : Data → Option ℤ
+signed_of d = option_and_then as_i64 (as_number d)
+
+-- a value: a whole number from -2^63 to 2^64 - 1, true or false, or a string of at most 65,536
+-- bytes
+abbrev pub scalar_of : Data → Option Scalar
+scalar_of d = if is_some (number_of d) then option_map scalar.Number (number_of d)
+    else (if is_some (signed_of d) then option_map scalar.Negative (signed_of d)
+    else (if is_some (as_bool d) then option_map scalar.Truth (as_bool d)
+    else option_map scalar.Text (value_of d)))
+
 -- what a read found: null for nothing, or one value
-abbrev pub value_alone : Data → Option (List Name)
-value_alone d = if is_some (as_null d) then Some [] else option_map (λ x. x ∷ []) (name_of d)
+abbrev pub value_alone : Data → Option (List Scalar)
+value_alone d = if is_some (as_null d) then Some [] else option_map (λ x. x ∷ []) (scalar_of d)
 
 -- what a read found: a list of values, null for nothing, or one value
-abbrev pub values_of : Data → Option (List Name)
-values_of d = if is_some (as_array d) then list_of name_of d else value_alone d
+abbrev pub values_of : Data → Option (List Scalar)
+values_of d = if is_some (as_array d) then list_of scalar_of d else value_alone d
 
 -- what an operation did: "append" a value, write it ("w"), or read values ("r")
 abbrev pub act_of : Data → Data → Option SaidAct
-act_of word d = option_and_then (λ w. if bytes_eq w (codes "append") then option_map Append (name_of d)
-    else (if bytes_eq w (codes "w") then option_map Write (name_of d)
+act_of word d = option_and_then (λ w. if bytes_eq w (codes "append") then option_map Append (scalar_of d)
+    else (if bytes_eq w (codes "w") then option_map Write (scalar_of d)
     else (if bytes_eq w (codes "r") then option_map Read (values_of d) else None))) (as_str word)
 
 -- an operation, by its members

@@ -3,7 +3,7 @@ ghost use Rattle.std.specs.Prelude.{◌≡◌, ◌≤◌, ◌<◌, ◌+◌, ◌^
 ghost use Rattle.tx_import.specs.Numbers.{Grows, AreValuesOf, IsActSaid, IsProcessSaid};
 ghost use Rattle.tx_import.specs.Drafts.{width, weight, held, GrowsDraft, FitsOps, FitsDraft, AddsOps, AddsTransaction, IsDraftOf};
 
-use crate::name::Name;
+use crate::name::{Name, Scalar};
 use crate::names::{Names, Values};
 use crate::said::{SaidAct, SaidOp, SaidTransaction};
 use std::alloc::{AllocError, Global};
@@ -31,18 +31,18 @@ fn put_values(
     values: &mut Values,
     elements: &mut Vec<u32>,
     key: u32,
-    names: &[Name],
+    found: &[Scalar],
 ) -> Result<(), AllocError>
-    requires few { length values.old + length names.now < 2 ^ 32 }
+    requires few { length values.old + length found.now < 2 ^ 32 }
     ensures said { OnOk result ((ns : List ℕ) × (elements.new.items ≡ elements.old.items ++ ns)
-        × AreValuesOf values.new key ns names.now) }
+        × AreValuesOf values.new key ns found.now) }
     ensures grows { OnOk result (Grows values.old values.new) }
-    ensures few { OnOk result (length values.new ≤ length values.old + length names.now) }
+    ensures few { OnOk result (length values.new ≤ length values.old + length found.now) }
     ensures within { OnOk result (All (λ v. v < length values.old) elements.old.items
         → All (λ v. v < length values.new) elements.new.items) }
 {
-    for name in names {
-        let number = values.number(key, name)?;
+    for value in found {
+        let number = values.number(key, value)?;
         elements.push(number as u32)?;
     }
     Ok(())
@@ -53,23 +53,23 @@ fn put_read(
     values: &mut Values,
     elements: &mut Vec<u32>,
     key: u32,
-    names: &[Name],
+    found: &[Scalar],
 ) -> Result<Span, AllocError>
-    requires values { length values.old + length names.now < 2 ^ 32 }
-    requires elements { length elements.old.items + length names.now < 2 ^ 32 }
+    requires values { length values.old + length found.now < 2 ^ 32 }
+    requires elements { length elements.old.items + length found.now < 2 ^ 32 }
     ensures upto { IfOk result (λ span. span.first + span.count ≡ length elements.new.items) }
     ensures said { IfOk result (λ span. AreValuesOf values.new key
-        (slice_range elements.new.items span.first (span.first + span.count)) names.now) }
+        (slice_range elements.new.items span.first (span.first + span.count)) found.now) }
     ensures grows { OnOk result (Grows elements.old.items elements.new.items) }
     ensures values { OnOk result (Grows values.old values.new) }
-    ensures few { OnOk result (length values.new ≤ length values.old + length names.now) }
-    ensures elements { OnOk result (length elements.new.items ≡ length elements.old.items + length names.now) }
+    ensures few { OnOk result (length values.new ≤ length values.old + length found.now) }
+    ensures elements { OnOk result (length elements.new.items ≡ length elements.old.items + length found.now) }
     ensures within { OnOk result (All (λ v. v < length values.old) elements.old.items
         → All (λ v. v < length values.new) elements.new.items) }
 {
     let first = elements.len() as u32;
-    let count = names.len() as u32;
-    put_values(values, elements, key, names)?;
+    let count = found.len() as u32;
+    put_values(values, elements, key, found)?;
     Ok(Span { first, count })
 }
 
@@ -91,9 +91,9 @@ fn put_act(
         → All (λ v. v < length values.new) elements.new.items) }
 {
     match said {
-        SaidAct::Append(name) => Ok(Act::Append(values.number(key, name)? as u32)),
-        SaidAct::Write(name) => Ok(Act::Write(values.number(key, name)? as u32)),
-        SaidAct::Read(names) => Ok(Act::Read(put_read(values, elements, key, names.as_slice())?)),
+        SaidAct::Append(value) => Ok(Act::Append(values.number(key, value)? as u32)),
+        SaidAct::Write(value) => Ok(Act::Write(values.number(key, value)? as u32)),
+        SaidAct::Read(found) => Ok(Act::Read(put_read(values, elements, key, found.as_slice())?)),
     }
 }
 

@@ -13,7 +13,7 @@ mod said;
 
 pub use bare::bare_of;
 pub use draft::Tables;
-pub use name::Name;
+pub use name::{Name, Scalar, Words};
 pub use names::{KeyedValue, Names, Values};
 pub use reader::{History, LineFault, read_history};
 pub use recorder::{Misrecorded, find_misrecorded};

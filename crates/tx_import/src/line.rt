@@ -1,11 +1,11 @@
 //! What a line's JSON value says.
 ghost use Rattle.std.specs.Prelude.{◌≡◌, Some, None, MatchResult};
 ghost use Rattle.serde_json.specs.View.{view, items_view};
-ghost use Rattle.serde_json.specs.Find.{as_array, as_str};
+ghost use Rattle.serde_json.specs.Find.{as_array, as_str, as_bool};
 ghost use Rattle.tx_check.specs.MachineSteps.{number_of, all_of};
-ghost use Rattle.tx_import.specs.Said.{name_of, value_alone, values_of, act_of, op_of};
+ghost use Rattle.tx_import.specs.Said.{name_of, signed_of, scalar_of, value_alone, values_of, act_of, op_of};
 
-use crate::name::Name;
+use crate::name::{Name, Scalar, Words};
 use crate::said::{SaidAct, SaidOp, SaidTransaction};
 use serde_json::Value as Json;
 use std::alloc::Global;
@@ -65,42 +65,63 @@ pub(crate) fn name(alloc: Global, value: &Json) -> Result<Name, Unread>
     }
 }
 
-fn names(alloc: Global, values: &[Json]) -> Result<Items<Name>, Unread>
-    ensures { MatchResult result (λ names. all_of name_of (items_view values.now) ≡ Some names) (λ e. e ≡ Unread.Form
-        → all_of name_of (items_view values.now) ≡ None) }
+fn scalar(alloc: Global, value: &Json) -> Result<Scalar, Unread>
+    ensures { MatchResult result (λ scalar. scalar_of (view value.now) ≡ Some scalar) (λ e. e ≡ Unread.Form
+        → scalar_of (view value.now) ≡ None) }
 {
-    let Ok(mut names) = Items::with_capacity(alloc, values.len()) else {
-        return Err(Unread::Memory);
-    };
-    for value in values {
-        if names.push(name(alloc, value)?).is_err() {
-            return Err(Unread::Memory);
-        }
+    if let Some(number) = value.as_u64() {
+        return Ok(Scalar::Number(number));
     }
-    Ok(names)
-}
-
-// The values that a read found, where they are not a list.
-fn value_alone(alloc: Global, value: &Json) -> Result<Items<Name>, Unread>
-    ensures { MatchResult result (λ names. value_alone (view value.now) ≡ Some names) (λ e. e ≡ Unread.Form
-        → value_alone (view value.now) ≡ None) }
-{
-    let mut names = Items::new(alloc);
-    if value.is_null() {
-        return Ok(names);
+    if let Some(number) = value.as_i64() {
+        return Ok(Scalar::Negative(number));
     }
-    match names.push(name(alloc, value)?) {
-        Ok(()) => Ok(names),
+    if let Some(truth) = value.as_bool() {
+        return Ok(Scalar::Truth(truth));
+    }
+    let text = text(value)?;
+    match Words::new(alloc, text.as_bytes()) {
+        Ok(words) => Ok(Scalar::Text(words)),
+        Err(Fault::ValueLength) => Err(Unread::Form),
         Err(_) => Err(Unread::Memory),
     }
 }
 
-fn values(alloc: Global, value: &Json) -> Result<Items<Name>, Unread>
-    ensures { MatchResult result (λ names. values_of (view value.now) ≡ Some names) (λ e. e ≡ Unread.Form
+fn scalars(alloc: Global, values: &[Json]) -> Result<Items<Scalar>, Unread>
+    ensures { MatchResult result (λ scalars. all_of scalar_of (items_view values.now) ≡ Some scalars)
+        (λ e. e ≡ Unread.Form → all_of scalar_of (items_view values.now) ≡ None) }
+{
+    let Ok(mut scalars) = Items::with_capacity(alloc, values.len()) else {
+        return Err(Unread::Memory);
+    };
+    for value in values {
+        if scalars.push(scalar(alloc, value)?).is_err() {
+            return Err(Unread::Memory);
+        }
+    }
+    Ok(scalars)
+}
+
+// The values that a read found, where they are not a list.
+fn value_alone(alloc: Global, value: &Json) -> Result<Items<Scalar>, Unread>
+    ensures { MatchResult result (λ found. value_alone (view value.now) ≡ Some found) (λ e. e ≡ Unread.Form
+        → value_alone (view value.now) ≡ None) }
+{
+    let mut found = Items::new(alloc);
+    if value.is_null() {
+        return Ok(found);
+    }
+    match found.push(scalar(alloc, value)?) {
+        Ok(()) => Ok(found),
+        Err(_) => Err(Unread::Memory),
+    }
+}
+
+fn values(alloc: Global, value: &Json) -> Result<Items<Scalar>, Unread>
+    ensures { MatchResult result (λ found. values_of (view value.now) ≡ Some found) (λ e. e ≡ Unread.Form
         → values_of (view value.now) ≡ None) }
 {
     match value.as_array() {
-        Some(items) => names(alloc, items.as_slice()),
+        Some(items) => scalars(alloc, items.as_slice()),
         None => value_alone(alloc, value),
     }
 }
@@ -111,9 +132,9 @@ fn act(alloc: Global, word: &Json, value: &Json) -> Result<SaidAct, Unread>
 {
     let word = text(word)?;
     if word == "append" {
-        Ok(SaidAct::Append(name(alloc, value)?))
+        Ok(SaidAct::Append(scalar(alloc, value)?))
     } else if word == "w" {
-        Ok(SaidAct::Write(name(alloc, value)?))
+        Ok(SaidAct::Write(scalar(alloc, value)?))
     } else if word == "r" {
         Ok(SaidAct::Read(values(alloc, value)?))
     } else {

@@ -1,8 +1,8 @@
-//! The numbers of names.
+//! The numbers of names and of values.
 ghost use Rattle.std.specs.Prelude.{◌≡◌, ◌≤◌, ◌+◌, [], length, slice_get, option_map, IfOk, OnOk};
 ghost use Rattle.tx_import.specs.Numbers.{Grows, AreApart, IsNameOf, IsValueOf};
 
-use crate::name::Name;
+use crate::name::{Name, Scalar};
 use indexmap::IndexSet;
 use std::alloc::{AllocError, Global};
 use std::marker::Model;
@@ -58,12 +58,12 @@ impl Names {
     }
 }
 
-/// A value that a key was given, or was said to have. The same name at two keys is two values.
+/// A value that a key was given, or was said to have. The same at two keys is two values.
 #[derive(Debug, Drop, PartialEq, Eq, Hash)]
 pub struct KeyedValue {
     /// The number of the key.
     pub key: u32,
-    pub name: Name,
+    pub value: Scalar,
 }
 
 /// Values of keys, each once, numbered as they came. Contracts see the list of them.
@@ -100,13 +100,13 @@ impl Values {
     }
 
     /// The number of a key's value, which is added where it is new.
-    pub fn number(&mut self, key: u32, name: &Name) -> Result<usize, AllocError>
+    pub fn number(&mut self, key: u32, value: &Scalar) -> Result<usize, AllocError>
         ensures grows { OnOk result (Grows self.old self.new) }
-        ensures named { IfOk result (λ n. IsValueOf self.new key n name.now) }
+        ensures valued { IfOk result (λ n. IsValueOf self.new key n value.now) }
         ensures few { OnOk result (length self.new ≤ length self.old + 1) }
     {
-        let name = name.clone()?;
-        let (number, _) = self.values.insert_full(KeyedValue { key, name })?;
+        let value = value.clone()?;
+        let (number, _) = self.values.insert_full(KeyedValue { key, value })?;
         Ok(number)
     }
 

@@ -1,8 +1,8 @@
-//! What a line of a history says, by the names that it gives to keys and values.
+//! What a line of a history says, by the names that it gives to keys, and by its values.
 ghost use Rattle.std.specs.Prelude.{◌≡◌};
 ghost use Rattle.tx_import.specs.Drafts.{width};
 
-use crate::name::Name;
+use crate::name::{Name, Scalar};
 use tx_recording::Outcome;
 use tx_types::Items;
 
@@ -10,11 +10,11 @@ use tx_types::Items;
 #[derive(Debug, Drop)]
 pub enum SaidAct {
     /// It put this value behind those that were there.
-    Append(Name),
+    Append(Scalar),
     /// It put this value in place of those that were there.
-    Write(Name),
+    Write(Scalar),
     /// It read these values.
-    Read(Items<Name>),
+    Read(Items<Scalar>),
 }
 
 impl SaidAct {
@@ -24,7 +24,7 @@ impl SaidAct {
     {
         match self {
             SaidAct::Append(_) | SaidAct::Write(_) => 0,
-            SaidAct::Read(names) => names.as_slice().len(),
+            SaidAct::Read(values) => values.as_slice().len(),
         }
     }
 }

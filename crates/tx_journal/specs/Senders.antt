@@ -1,5 +1,5 @@
 -- Ways to the regions, and what they make of a request.
-use Rattle.std.specs.Prelude.{◌≡◌, ◌≤◌, ℕ, List, length, Result, Ok, Err}
+use Rattle.std.specs.Prelude.{◌≡◌, ◌≤◌, ℕ, List, length, Option, Some, None, Result, Ok, Err}
 use Rattle.tx_types.specs.declared.key.Key.{Key}
 use Rattle.tx_plan.specs.declared.body.Body.{Body}
 use Rattle.tx_core.specs.Worlds.{Holds}
@@ -9,6 +9,11 @@ use Rattle.tx_journal.specs.declared.sender.Lost.{Lost}
 -- a reply, or none
 abbrev pub Reached : Type 0
 Reached = Result Given Lost
+
+-- what is left at a place where a reply was to come
+abbrev pub reached : {R : Type 0} → Option R → Result R Lost
+reached None = Err (record {})
+reached (Some r) = Ok r
 
 -- some region holds what a request speaks of
 abbrev pub IsHeld : List Key → Body → Type 0

@@ -37,6 +37,6 @@ pub use journal::{Journal, Opened};
 pub use reply::Reply;
 pub use request::Request;
 pub use seat::Seat;
-pub use sender::{Lost, Sender};
+pub use sender::{Lost, ReplyTo, Sender};
 pub use told::{Told, Unnamed, one_history};
 pub use view::{JournalId, StepEvent};

@@ -9,10 +9,12 @@ ghost use Rattle.tx_history.specs.Graph.{IsCycleOf};
 ghost use Rattle.tx_verdict.specs.Verdicts.{IsVerdict};
 
 use std::alloc::{AllocError, Global};
-use tx_chains::{Asked, Parts, plan_of, versions_of};
-use tx_history::{Decision, decide};
-use tx_recording::{Orders, Recording};
-use tx_verdict::{Lives, Refutation, Verdict, Versions, cycle_of, is_refutation, timestamps};
+use tx_chains::{Asked, Parts, number, plan_of, versions_of};
+use tx_history::{After, Decision, decide};
+use tx_recording::Recording;
+use tx_verdict::{
+    Level, Lives, Question, Refutation, Verdict, Versions, cycle_of, is_refutation, timestamps,
+};
 use tx_views::{Owner, View};
 
 // What timestamps of versions are for the recording.
@@ -20,7 +22,7 @@ fn yes_of(
     alloc: Global,
     recording: &Recording,
     views: &[View],
-    orders: Orders,
+    question: Question,
     versions: Versions,
     starts: Vec<usize>,
     commits: Vec<usize>,
@@ -30,11 +32,76 @@ fn yes_of(
     requires history { IsRecorded versions.recorded }
     requires assigned { IsAssignment (history_of versions.recorded) (slice_index starts.items)
         (slice_index commits.items) }
-    ensures { IfOk result (λ found. IfSome found (IsVerdict recording.now orders)) }
+    ensures { IfOk result (λ found. IfSome found (IsVerdict recording.now question)) }
 {
-    match timestamps(alloc, recording, views, orders, versions, starts, commits)? {
+    match timestamps(alloc, recording, views, question, versions, starts, commits)? {
         Some(found) => Ok(Some(Verdict::Yes(found))),
         None => Ok(None),
+    }
+}
+
+// Adds that the transactions come one after the other, in the order of their starts.
+fn add_turns(alloc: Global, versions: &mut Versions, starts: &[usize]) -> Result<(), AllocError> {
+    let mut by_start = Vec::new(alloc);
+    for txn in 0..starts.len() {
+        by_start.push((starts[txn], number(txn)))?;
+    }
+    by_start.sort()?;
+    for i in 1..by_start.len() {
+        versions.recorded.after.push(After {
+            earlier: by_start[i - 1].1,
+            later: by_start[i].1,
+        })?;
+    }
+    Ok(())
+}
+
+// What timestamps of versions are for the recording in a serial execution: with others, in which
+// the transactions come one after the other in the order of their starts.
+fn yes_in_turn(
+    alloc: Global,
+    recording: &Recording,
+    views: &[View],
+    question: Question,
+    mut versions: Versions,
+    starts: Vec<usize>,
+) -> Result<Option<Verdict>, AllocError>
+    requires recording { IsRecording recording.now }
+    requires views { AreViews recording.now views.now }
+    ensures { IfOk result (λ found. IfSome found (IsVerdict recording.now question)) }
+{
+    add_turns(alloc, &mut versions, starts.as_slice())?;
+    if !versions.recorded.is_history() {
+        return Ok(None);
+    }
+    match decide(alloc, &versions.recorded)? {
+        Decision::Yes(starts, commits) => {
+            yes_of(alloc, recording, views, question, versions, starts, commits)
+        }
+        Decision::No(_) => Ok(None),
+    }
+}
+
+// What timestamps of versions are for the recording, at the level that is asked for.
+fn yes_at(
+    alloc: Global,
+    recording: &Recording,
+    views: &[View],
+    question: Question,
+    versions: Versions,
+    starts: Vec<usize>,
+    commits: Vec<usize>,
+) -> Result<Option<Verdict>, AllocError>
+    requires recording { IsRecording recording.now }
+    requires views { AreViews recording.now views.now }
+    requires history { IsRecorded versions.recorded }
+    requires assigned { IsAssignment (history_of versions.recorded) (slice_index starts.items)
+        (slice_index commits.items) }
+    ensures { IfOk result (λ found. IfSome found (IsVerdict recording.now question)) }
+{
+    match question.level {
+        Level::Snapshot => yes_of(alloc, recording, views, question, versions, starts, commits),
+        Level::Serializable => yes_in_turn(alloc, recording, views, question, versions, starts),
     }
 }
 
@@ -44,7 +111,7 @@ fn no_of(
     recording: &Recording,
     owners: &[Option<Owner>],
     views: &[View],
-    orders: Orders,
+    question: Question,
     versions: &Versions,
     nodes: &[u32],
 ) -> Result<Option<Verdict>, AllocError>
@@ -53,9 +120,9 @@ fn no_of(
     requires views { AreViews recording.now views.now }
     requires history { IsRecorded versions.now.recorded }
     requires cycle { IsCycleOf (history_of versions.now.recorded) nodes.now }
-    ensures { IfOk result (λ found. IfSome found (IsVerdict recording.now orders)) }
+    ensures { IfOk result (λ found. IfSome found (IsVerdict recording.now question)) }
 {
-    match cycle_of(alloc, recording, owners, views, orders, versions, nodes)? {
+    match cycle_of(alloc, recording, owners, views, question, versions, nodes)? {
         Some(cycle) => Ok(Some(Verdict::No(cycle))),
         None => Ok(None),
     }
@@ -67,14 +134,14 @@ pub(crate) fn refuted_by(
     recording: &Recording,
     owners: &[Option<Owner>],
     views: &[View],
-    orders: Orders,
+    question: Question,
     versions: &Versions,
     refutation: Refutation,
 ) -> Result<Option<Verdict>, AllocError>
     requires recording { IsRecording recording.now }
     requires owners { AreOwners recording.now owners.now }
     requires views { AreViews recording.now views.now }
-    ensures { IfOk result (λ found. IfSome found (IsVerdict recording.now orders)) }
+    ensures { IfOk result (λ found. IfSome found (IsVerdict recording.now question)) }
 {
     if !versions.recorded.is_history() {
         return Ok(None);
@@ -85,7 +152,7 @@ pub(crate) fn refuted_by(
         owners,
         views,
         versions,
-        orders,
+        question,
         &refutation,
     )? {
         return Ok(None);
@@ -99,24 +166,24 @@ pub(crate) fn try_versions(
     recording: &Recording,
     owners: &[Option<Owner>],
     views: &[View],
-    orders: Orders,
+    question: Question,
     versions: Versions,
 ) -> Result<Option<Verdict>, AllocError>
     requires recording { IsRecording recording.now }
     requires owners { AreOwners recording.now owners.now }
     requires views { AreViews recording.now views.now }
-    ensures { IfOk result (λ found. IfSome found (IsVerdict recording.now orders)) }
+    ensures { IfOk result (λ found. IfSome found (IsVerdict recording.now question)) }
 {
     if !versions.recorded.is_history() {
         return Ok(None);
     }
     match decide(alloc, &versions.recorded)? {
         Decision::Yes(starts, commits) => {
-            yes_of(alloc, recording, views, orders, versions, starts, commits)
+            yes_at(alloc, recording, views, question, versions, starts, commits)
         }
         Decision::No(nodes) => {
             let nodes = nodes.as_slice();
-            no_of(alloc, recording, owners, views, orders, &versions, nodes)
+            no_of(alloc, recording, owners, views, question, &versions, nodes)
         }
     }
 }
@@ -128,7 +195,7 @@ pub(crate) fn verdict_in(
     recording: &Recording,
     owners: &[Option<Owner>],
     views: &[View],
-    orders: Orders,
+    question: Question,
     lives: &Lives,
     parts: &Parts,
     order: &[u32],
@@ -137,10 +204,10 @@ pub(crate) fn verdict_in(
     requires recording { IsRecording recording.now }
     requires owners { AreOwners recording.now owners.now }
     requires views { AreViews recording.now views.now }
-    ensures { IfOk result (λ found. IfSome found (IsVerdict recording.now orders)) }
+    ensures { IfOk result (λ found. IfSome found (IsVerdict recording.now question)) }
 {
     let (plan, _) = plan_of(alloc, recording, views, parts, order, asked)?;
     let puts = parts.puts.all.as_slice();
-    let versions = versions_of(alloc, recording, views, orders, lives, puts, &plan)?;
-    try_versions(alloc, recording, owners, views, orders, versions)
+    let versions = versions_of(alloc, recording, views, question, lives, puts, &plan)?;
+    try_versions(alloc, recording, owners, views, question, versions)
 }

@@ -9,7 +9,7 @@ use tx_chains::{Extras, Put, number, put_at};
 use tx_order::Edge;
 use tx_recording::Recording;
 use tx_search::{Sought, refutation_of, search};
-use tx_verdict::{Refutation, Versions};
+use tx_verdict::{Level, Refutation, Versions};
 use tx_web::{Finds, Lists, Paths, Web, groups_of, loose_chains, taken_of, web_of};
 
 // How many times orders are looked for in the graph with those that were found.
@@ -132,13 +132,14 @@ fn refuted(
 }
 
 /// What follows from orders that are found, for the versions of a plan in which each put that
-/// nobody knows the place of has a chain of its own. A search meets at most as many cycles as the
-/// budget.
+/// nobody knows the place of has a chain of its own, without what only a serial execution asks of
+/// them. A search meets at most as many cycles as the budget.
 ///
 /// `AllocError` where there was no room.
 pub(crate) fn follows_from(
     alloc: Global,
     recording: &Recording,
+    level: Level,
     views: usize,
     versions: &Versions,
     puts: &[Put],
@@ -151,7 +152,7 @@ pub(crate) fn follows_from(
     let loose = loose_chains(alloc, versions, extras, recording.keys)?;
     let groups = groups_of(alloc, loose.as_slice())?;
     let mut finds = Finds {
-        web: web_of(alloc, versions, views, loose.as_slice())?,
+        web: web_of(alloc, level, versions, views, loose.as_slice())?,
         loose: loose.as_slice(),
         found: Vec::new(alloc),
     };

@@ -11,8 +11,8 @@ use crate::found::{Follows, follows_from};
 use crate::undecided::open_keys;
 use std::alloc::{AllocError, Global};
 use tx_chains::{Asked, Extras, Parts, Put, number, plan_of, versions_of};
-use tx_recording::{Orders, Recording};
-use tx_verdict::{Lives, Verdict};
+use tx_recording::Recording;
+use tx_verdict::{Level, Lives, Question, Verdict};
 use tx_views::{Owner, View};
 
 // The puts in their own order.
@@ -41,7 +41,7 @@ fn verdict_by(
     recording: &Recording,
     owners: &[Option<Owner>],
     views: &[View],
-    orders: Orders,
+    question: Question,
     lives: &Lives,
     parts: &Parts,
     numbers: &[usize],
@@ -49,7 +49,7 @@ fn verdict_by(
     requires recording { IsRecording recording.now }
     requires owners { AreOwners recording.now owners.now }
     requires views { AreViews recording.now views.now }
-    ensures { IfOk result (λ found. IfSome found (IsVerdict recording.now orders)) }
+    ensures { IfOk result (λ found. IfSome found (IsVerdict recording.now question)) }
 {
     let puts = parts.puts.all.as_slice();
     let mut order = in_turn(alloc, puts.len())?;
@@ -60,7 +60,7 @@ fn verdict_by(
         recording,
         owners,
         views,
-        orders,
+        question,
         lives,
         parts,
         order,
@@ -68,13 +68,13 @@ fn verdict_by(
     )
 }
 
-// What the recording is, with those puts in one of these orders, or in which they are recorded.
+// What the recording is, with those puts in one of these question, or in which they are recorded.
 fn verdict_found(
     alloc: Global,
     recording: &Recording,
     owners: &[Option<Owner>],
     views: &[View],
-    orders: Orders,
+    question: Question,
     lives: &Lives,
     parts: &Parts,
     guesses: &[Vec<usize>],
@@ -82,11 +82,13 @@ fn verdict_found(
     requires recording { IsRecording recording.now }
     requires owners { AreOwners recording.now owners.now }
     requires views { AreViews recording.now views.now }
-    ensures { IfOk result (λ found. IfSome found (IsVerdict recording.now orders)) }
+    ensures { IfOk result (λ found. IfSome found (IsVerdict recording.now question)) }
 {
     for i in 0..guesses.len() {
         let guess = guesses[i].as_slice();
-        let found = verdict_by(alloc, recording, owners, views, orders, lives, parts, guess)?;
+        let found = verdict_by(
+            alloc, recording, owners, views, question, lives, parts, guess,
+        )?;
         if found.is_some() {
             return Ok(found);
         }
@@ -95,7 +97,7 @@ fn verdict_found(
     let order = turn.as_slice();
     let asked = Asked::All;
     verdict_in(
-        alloc, recording, owners, views, orders, lives, parts, order, asked,
+        alloc, recording, owners, views, question, lives, parts, order, asked,
     )
 }
 
@@ -105,7 +107,7 @@ fn verdict_by_hint(
     recording: &Recording,
     owners: &[Option<Owner>],
     views: &[View],
-    orders: Orders,
+    question: Question,
     lives: &Lives,
     parts: &Parts,
     hint: Hint,
@@ -113,7 +115,7 @@ fn verdict_by_hint(
     requires recording { IsRecording recording.now }
     requires owners { AreOwners recording.now owners.now }
     requires views { AreViews recording.now views.now }
-    ensures { IfOk result (λ found. IfSome found (IsVerdict recording.now orders)) }
+    ensures { IfOk result (λ found. IfSome found (IsVerdict recording.now question)) }
 {
     match hint {
         Hint::First(first) => {
@@ -121,13 +123,13 @@ fn verdict_by_hint(
             let asked = Asked::First(first.as_slice());
             let order = turn.as_slice();
             verdict_in(
-                alloc, recording, owners, views, orders, lives, parts, order, asked,
+                alloc, recording, owners, views, question, lives, parts, order, asked,
             )
         }
         Hint::Guesses(guesses) => {
             let guesses = guesses.as_slice();
             verdict_found(
-                alloc, recording, owners, views, orders, lives, parts, guesses,
+                alloc, recording, owners, views, question, lives, parts, guesses,
             )
         }
         Hint::Nothing => Ok(None),
@@ -136,15 +138,15 @@ fn verdict_by_hint(
 
 // The orders that the lines tell of, be they asked for or not: what holds in them holds in those
 // that are asked for.
-fn told_orders(recording: &Recording, orders: Orders) -> Orders {
-    let mut told = orders;
+fn told_orders(recording: &Recording, question: Question) -> Question {
+    let mut told = question;
     for txn in 0..recording.transactions.len() {
         let transaction = recording.transactions[txn];
         if transaction.process.is_some() {
-            told.sessions = true;
+            told.orders.sessions = true;
         }
         if transaction.ended.is_some() {
-            told.strict = true;
+            told.orders.strict = true;
         }
     }
     told
@@ -156,33 +158,38 @@ fn verdict_by_found(
     recording: &Recording,
     owners: &[Option<Owner>],
     views: &[View],
-    orders: Orders,
+    question: Question,
     lives: &Lives,
     parts: &Parts,
-    told: Orders,
+    told: Question,
     budget: u32,
 ) -> Result<Option<Verdict>, AllocError>
     requires recording { IsRecording recording.now }
     requires owners { AreOwners recording.now owners.now }
     requires views { AreViews recording.now views.now }
-    ensures { IfOk result (λ found. IfSome found (IsVerdict recording.now orders)) }
+    ensures { IfOk result (λ found. IfSome found (IsVerdict recording.now question)) }
 {
     let puts = parts.puts.all.as_slice();
     let turn = in_turn(alloc, puts.len())?;
     let asked = Asked::First(&[]);
     let (plan, extras) = plan_of(alloc, recording, views, parts, turn.as_slice(), asked)?;
-    let versions = versions_of(alloc, recording, views, told, lives, puts, &plan)?;
+    let level = told.level;
+    let mut plain = told;
+    plain.level = Level::Snapshot;
+    let versions = versions_of(alloc, recording, views, plain, lives, puts, &plan)?;
     let count = views.len();
-    match follows_from(alloc, recording, count, &versions, puts, &extras, budget)? {
+    match follows_from(
+        alloc, recording, level, count, &versions, puts, &extras, budget,
+    )? {
         Follows::Refuted(refutation) => {
             refuted_by(
-                alloc, recording, owners, views, orders, &versions, refutation,
+                alloc, recording, owners, views, question, &versions, refutation,
             )
         }
         Follows::Guesses(guesses) => {
             let guesses = guesses.as_slice();
             verdict_found(
-                alloc, recording, owners, views, orders, lives, parts, guesses,
+                alloc, recording, owners, views, question, lives, parts, guesses,
             )
         }
         Follows::Nothing => Ok(None),
@@ -195,7 +202,7 @@ fn verdict_by_orders(
     recording: &Recording,
     owners: &[Option<Owner>],
     views: &[View],
-    orders: Orders,
+    question: Question,
     lives: &Lives,
     parts: &Parts,
     budget: u32,
@@ -203,17 +210,17 @@ fn verdict_by_orders(
     requires recording { IsRecording recording.now }
     requires owners { AreOwners recording.now owners.now }
     requires views { AreViews recording.now views.now }
-    ensures { IfOk result (λ found. IfSome found (IsVerdict recording.now orders)) }
+    ensures { IfOk result (λ found. IfSome found (IsVerdict recording.now question)) }
 {
-    let told = told_orders(recording, orders);
+    let told = told_orders(recording, question);
     let found = verdict_by_found(
-        alloc, recording, owners, views, orders, lives, parts, told, budget,
+        alloc, recording, owners, views, question, lives, parts, told, budget,
     )?;
-    if found.is_some() || told == orders {
+    if found.is_some() || told == question {
         return Ok(found);
     }
     verdict_by_found(
-        alloc, recording, owners, views, orders, lives, parts, orders, budget,
+        alloc, recording, owners, views, question, lives, parts, question, budget,
     )
 }
 
@@ -223,10 +230,10 @@ fn undecided(
     recording: &Recording,
     puts: &[Put],
     extras: &Extras,
-    orders: Orders,
+    question: Question,
 ) -> Result<Verdict, AllocError>
     requires recording { IsRecording recording.now }
-    ensures { IfOk result (IsVerdict recording.now orders) }
+    ensures { IfOk result (IsVerdict recording.now question) }
 {
     let keys = open_keys(alloc, recording, puts, extras)?;
     if keys.is_empty() {
@@ -242,7 +249,7 @@ fn verdict_sought(
     recording: &Recording,
     owners: &[Option<Owner>],
     views: &[View],
-    orders: Orders,
+    question: Question,
     lives: &Lives,
     parts: &Parts,
     hint: Hint,
@@ -251,14 +258,16 @@ fn verdict_sought(
     requires recording { IsRecording recording.now }
     requires owners { AreOwners recording.now owners.now }
     requires views { AreViews recording.now views.now }
-    ensures { IfOk result (λ found. IfSome found (IsVerdict recording.now orders)) }
+    ensures { IfOk result (λ found. IfSome found (IsVerdict recording.now question)) }
 {
-    let found = verdict_by_hint(alloc, recording, owners, views, orders, lives, parts, hint)?;
+    let found = verdict_by_hint(
+        alloc, recording, owners, views, question, lives, parts, hint,
+    )?;
     if found.is_some() {
         return Ok(found);
     }
     verdict_by_orders(
-        alloc, recording, owners, views, orders, lives, parts, budget,
+        alloc, recording, owners, views, question, lives, parts, budget,
     )
 }
 
@@ -268,7 +277,7 @@ pub(crate) fn judge_parts(
     recording: &Recording,
     owners: &[Option<Owner>],
     views: &[View],
-    orders: Orders,
+    question: Question,
     lives: &Lives,
     parts: &Parts,
     budget: u32,
@@ -276,23 +285,23 @@ pub(crate) fn judge_parts(
     requires recording { IsRecording recording.now }
     requires owners { AreOwners recording.now owners.now }
     requires views { AreViews recording.now views.now }
-    ensures { IfOk result (IsVerdict recording.now orders) }
+    ensures { IfOk result (IsVerdict recording.now question) }
 {
     let puts = parts.puts.all.as_slice();
     let turn = in_turn(alloc, puts.len())?;
     let asked = Asked::First(&[]);
     let (plan, extras) = plan_of(alloc, recording, views, parts, turn.as_slice(), asked)?;
-    let versions = versions_of(alloc, recording, views, orders, lives, puts, &plan)?;
+    let versions = versions_of(alloc, recording, views, question, lives, puts, &plan)?;
     let hint = hint_of(alloc, &versions, &plan, puts, &extras, recording.keys)?;
-    let found = try_versions(alloc, recording, owners, views, orders, versions)?;
+    let found = try_versions(alloc, recording, owners, views, question, versions)?;
     if let Some(verdict) = found {
         return Ok(verdict);
     }
     let found = verdict_sought(
-        alloc, recording, owners, views, orders, lives, parts, hint, budget,
+        alloc, recording, owners, views, question, lives, parts, hint, budget,
     )?;
     match found {
         Some(verdict) => Ok(verdict),
-        None => undecided(alloc, recording, puts, &extras, orders),
+        None => undecided(alloc, recording, puts, &extras, question),
     }
 }

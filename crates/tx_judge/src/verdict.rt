@@ -1,4 +1,4 @@
-//! Whether a recording is snapshot isolation.
+//! Whether a recording is snapshot isolation, or serializable.
 ghost use Rattle.std.specs.Prelude.{IfOk, IfSome, IsTrue};
 ghost use Rattle.tx_recording.specs.Recordings.{IsRecording};
 ghost use Rattle.tx_views.specs.Views.{AreViews, IsViewed};
@@ -9,8 +9,10 @@ ghost use Rattle.tx_verdict.specs.Verdicts.{IsVerdict, IsWrong};
 use crate::search::judge_parts;
 use std::alloc::{AllocError, Global};
 use tx_chains::{Parts, follows_of, lives_of, number, put_at, puts_of};
-use tx_recording::{Orders, Recording};
-use tx_verdict::{Fact, Verdict, are_lists, internal, wrong_lists, wrong_update, wrong_views};
+use tx_recording::Recording;
+use tx_verdict::{
+    Fact, Question, Verdict, are_lists, internal, wrong_lists, wrong_update, wrong_views,
+};
 use tx_views::{Owned, Owner, View, Viewed, owners, views};
 
 // By key, the view with most values, where keys hold lists.
@@ -71,13 +73,13 @@ fn judge_views(
     recording: &Recording,
     owners: &[Option<Owner>],
     views: &[View],
-    orders: Orders,
+    question: Question,
     budget: u32,
 ) -> Result<Verdict, AllocError>
     requires recording { IsRecording recording.now }
     requires owners { AreOwners recording.now owners.now }
     requires views { AreViews recording.now views.now }
-    ensures { IfOk result (IsVerdict recording.now orders) }
+    ensures { IfOk result (IsVerdict recording.now question) }
 {
     if let Some(fact) = wrong_views(alloc, recording, owners, views)? {
         return Ok(Verdict::Fact(fact));
@@ -102,7 +104,7 @@ fn judge_views(
         longest,
     };
     judge_parts(
-        alloc, recording, owners, views, orders, &lives, &parts, budget,
+        alloc, recording, owners, views, question, &lives, &parts, budget,
     )
 }
 
@@ -112,17 +114,17 @@ fn judge_viewed(
     recording: &Recording,
     owners: &[Option<Owner>],
     viewed: Viewed,
-    orders: Orders,
+    question: Question,
     budget: u32,
 ) -> Result<Verdict, AllocError>
     requires recording { IsRecording recording.now }
     requires owners { AreOwners recording.now owners.now }
     requires viewed { IsViewed recording.now viewed }
-    ensures { IfOk result (IsVerdict recording.now orders) }
+    ensures { IfOk result (IsVerdict recording.now question) }
 {
     match viewed {
         Viewed::Views(views) => {
-            judge_views(alloc, recording, owners, views.as_slice(), orders, budget)
+            judge_views(alloc, recording, owners, views.as_slice(), question, budget)
         }
         Viewed::Internal(txn, place) => Ok(Verdict::Fact(internal(recording, txn, place))),
     }
@@ -133,17 +135,17 @@ fn judge_owned(
     alloc: Global,
     recording: &Recording,
     owned: Owned,
-    orders: Orders,
+    question: Question,
     budget: u32,
 ) -> Result<Verdict, AllocError>
     requires recording { IsRecording recording.now }
     requires owned { IsOwned recording.now owned }
-    ensures { IfOk result (IsVerdict recording.now orders) }
+    ensures { IfOk result (IsVerdict recording.now question) }
 {
     match owned {
         Owned::Once(table) => {
             let viewed = views(alloc, recording)?;
-            judge_viewed(alloc, recording, table.as_slice(), viewed, orders, budget)
+            judge_viewed(alloc, recording, table.as_slice(), viewed, question, budget)
         }
         Owned::Twice(twice) => {
             Ok(Verdict::Twice(twice.first.txn, twice.second.txn, twice.value))
@@ -151,7 +153,8 @@ fn judge_owned(
     }
 }
 
-/// Whether a recording is snapshot isolation, in the orders that are asked for.
+/// Whether a recording is snapshot isolation or serializable, as is asked for, in the orders that
+/// are asked for.
 ///
 /// Where the order of two puts into a key is not known, it is looked for; a search learns from at
 /// most `budget` cycles that it meets, and where it has spent them the verdict is open.
@@ -159,12 +162,12 @@ fn judge_owned(
 pub fn judge(
     alloc: Global,
     recording: &Recording,
-    orders: Orders,
+    question: Question,
     budget: u32,
 ) -> Result<Verdict, AllocError>
     requires { IsRecording recording.now }
-    ensures { IfOk result (IsVerdict recording.now orders) }
+    ensures { IfOk result (IsVerdict recording.now question) }
 {
     let owned = owners(alloc, recording)?;
-    judge_owned(alloc, recording, owned, orders, budget)
+    judge_owned(alloc, recording, owned, question, budget)
 }

@@ -12,22 +12,22 @@ use Rattle.tx_core.specs.Recording.{Extends}
 use Rattle.tx_journal.specs.Known.{Known, HasSeen}
 use Rattle.tx_transaction.specs.declared.state.Terms.{Terms}
 use Rattle.tx_transaction.specs.Buffers.{Entries}
-use Rattle.tx_simple.specs.declared.failure.Failure.{Failure}
-use Rattle.tx_simple.specs.declared.ended.Seats.{Seats}
-use Rattle.tx_simple.specs.declared.ended.Ended.{Ended}
-use Rattle.tx_simple.specs.declared.ended.Unended.{Unended}
-use Rattle.tx_simple.specs.declared.stops.Stop.{Stop}
-use Rattle.tx_simple.specs.Endings.{EndsOver, IsLastTry, IsUnended}
+use Rattle.tx_update.specs.declared.failure.Failure.{Failure}
+use Rattle.tx_update.specs.declared.ended.Seats.{Seats}
+use Rattle.tx_update.specs.declared.ended.Ended.{Ended}
+use Rattle.tx_update.specs.declared.ended.Unended.{Unended}
+use Rattle.tx_update.specs.declared.stops.Stop.{Stop}
+use Rattle.tx_update.specs.Endings.{EndsOver, IsLastTry, IsUnended}
 use Rattle.tx_reader.specs.Readers.{OnlySees}
 use Rattle.tx_kv.specs.declared.updated.Updated.{Updated}
 use Rattle.tx_kv.specs.declared.updated.NotUpdated.{NotUpdated}
 use Rattle.tx_core.specs.declared.event.Outcome.{Outcome}
 use Rattle.tx_core.specs.declared.event.Outcome.TheVariants as outcome
-use Rattle.tx_simple.specs.declared.failure.Failure.TheVariants as failure
-use Rattle.tx_simple.specs.declared.ended.Unended.TheVariants as unended
-use Rattle.tx_simple.specs.Failures.{TellsOfWork}
-use Rattle.tx_simple.specs.Updates.{SeatGoesOn, GoesWithoutEffect, IsWithoutEffect, EndedWith, Writes, Wrote}
-use Rattle.tx_simple.proofs.CallSequences.{goes_more, recorded_begins}
+use Rattle.tx_update.specs.declared.failure.Failure.TheVariants as failure
+use Rattle.tx_update.specs.declared.ended.Unended.TheVariants as unended
+use Rattle.tx_update.specs.Failures.{TellsOfWork}
+use Rattle.tx_update.specs.Updates.{SeatGoesOn, GoesWithoutEffect, IsWithoutEffect, EndedWith, Writes, Wrote}
+use Rattle.tx_update.proofs.CallSequences.{goes_more, recorded_begins}
 use Rattle.tx_kv.specs.Clients.{ClientState, commit_of, HasValue, IsNotKnown, TellsEnd, TellsNoEnd, Updates, WentWell, WroteAll}
 use Rattle.tx_kv.specs.UpdateResults.{told_stop, told_commit, told_reads, told_end}
 

@@ -8,14 +8,14 @@ use Rattle.tx_core.specs.Shadow.{shadow}
 use Rattle.tx_core.specs.Worlds.{IsWorldRun}
 use Rattle.tx_core.proofs.seats.Beginnings.{begins_all, begins_more}
 use Rattle.tx_types.specs.declared.fault.Fault.TheVariants as fault
-use Rattle.tx_simple.specs.declared.stops.Stop.{Stop}
-use Rattle.tx_simple.specs.declared.stops.Stop.TheVariants as stop
+use Rattle.tx_update.specs.declared.stops.Stop.{Stop}
+use Rattle.tx_update.specs.declared.stops.Stop.TheVariants as stop
 use Rattle.tx_plan.specs.declared.answer.Answer.{Answer}
 use Rattle.tx_transaction.specs.declared.state.Miss.{Miss}
 use Rattle.tx_transaction.specs.declared.state.Miss.TheVariants.{Fault as Short}
 use Rattle.tx_reader.specs.Readers.{IsKeyAnswer, ReadsOn}
-use Rattle.tx_simple.specs.Reads.{SeesOn}
-use Rattle.tx_simple.specs.Stops.{NamesKey}
+use Rattle.tx_update.specs.Reads.{SeesOn}
+use Rattle.tx_update.specs.Stops.{NamesKey}
 use Rattle.tx_kv.specs.Views.{IsViewStop, SeesEach, SeesEachOn}
 
 abbrev pub SeenAt : History → ℕ → Key → Option Value → Type 0

@@ -9,15 +9,15 @@ use Rattle.tx_journal.specs.Known.{known}
 use Rattle.tx_transaction.specs.declared.state.Terms.{Terms}
 use Rattle.tx_transaction.specs.Buffers.{Entries}
 use Rattle.tx_client.specs.Calls.{Records}
-use Rattle.tx_simple.specs.declared.failure.Failure.{Failure}
-use Rattle.tx_simple.specs.declared.failure.Failure.TheVariants as failure
-use Rattle.tx_simple.specs.declared.ended.Seats.{Seats}
-use Rattle.tx_simple.specs.declared.ended.Ended.{Ended}
-use Rattle.tx_simple.specs.declared.ended.Unended.{Unended}
-use Rattle.tx_simple.specs.declared.ended.Unended.TheVariants as unended
-use Rattle.tx_simple.specs.Updates.{IsWithoutEffect, Wrote}
-use Rattle.tx_simple.specs.declared.stops.Stop.{Stop}
-use Rattle.tx_simple.specs.Endings.{EndsOver, IsLastTry, IsUnended}
+use Rattle.tx_update.specs.declared.failure.Failure.{Failure}
+use Rattle.tx_update.specs.declared.failure.Failure.TheVariants as failure
+use Rattle.tx_update.specs.declared.ended.Seats.{Seats}
+use Rattle.tx_update.specs.declared.ended.Ended.{Ended}
+use Rattle.tx_update.specs.declared.ended.Unended.{Unended}
+use Rattle.tx_update.specs.declared.ended.Unended.TheVariants as unended
+use Rattle.tx_update.specs.Updates.{IsWithoutEffect, Wrote}
+use Rattle.tx_update.specs.declared.stops.Stop.{Stop}
+use Rattle.tx_update.specs.Endings.{EndsOver, IsLastTry, IsUnended}
 use Rattle.tx_kv.specs.declared.updated.Updated.{Updated}
 use Rattle.tx_kv.specs.declared.updated.NotUpdated.{NotUpdated}
 use Rattle.tx_kv.specs.declared.updated.NotUpdated.TheVariants.{Own, Stopped, Unknown, Spent}

@@ -2,9 +2,9 @@
 use Rattle.std.specs.Prelude.{ℕ, Option, Some, None, Result, Ok, Err}
 use Rattle.tx_core.specs.declared.event.Outcome.{Outcome}
 use Rattle.tx_core.specs.declared.event.Outcome.TheVariants as outcome
-use Rattle.tx_simple.specs.declared.failure.Failure.{Failure}
-use Rattle.tx_simple.specs.declared.failure.Failure.TheVariants as failure
-use Rattle.tx_simple.specs.declared.stops.Stop.TheVariants.{RolledBack}
+use Rattle.tx_update.specs.declared.failure.Failure.{Failure}
+use Rattle.tx_update.specs.declared.failure.Failure.TheVariants as failure
+use Rattle.tx_update.specs.declared.stops.Stop.TheVariants.{RolledBack}
 use Rattle.tx_kv.specs.declared.updated.Updated.{Updated}
 use Rattle.tx_kv.specs.declared.updated.NotUpdated.{NotUpdated}
 use Rattle.tx_kv.specs.declared.updated.NotUpdated.TheVariants.{Own, Stopped, Unknown}

@@ -11,10 +11,10 @@ use Rattle.tx_core.specs.Histories.{History, Begins}
 use Rattle.tx_core.specs.Shadow.{shadow}
 use Rattle.tx_core.specs.Worlds.{IsWorldRun}
 use Rattle.tx_laws.specs.Rows.{AreRowsOf}
-use Rattle.tx_simple.specs.Ranges.{is_in_range}
+use Rattle.tx_update.specs.Ranges.{is_in_range}
 use Rattle.tx_reader.specs.Readers.{WasAnsweredAt}
-use Rattle.tx_simple.specs.declared.stops.Stop.{Stop}
-use Rattle.tx_simple.specs.declared.stops.Stop.TheVariants as stop
+use Rattle.tx_update.specs.declared.stops.Stop.{Stop}
+use Rattle.tx_update.specs.declared.stops.Stop.TheVariants as stop
 
 -- the rows of a range are those that the one-step machine sees there at a timestamp: they rise,
 -- each is of a key of the range, and of each such key they tell what the machine sees

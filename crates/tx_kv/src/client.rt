@@ -11,9 +11,9 @@ use std::sync::Wait;
 use tx_client::Terms;
 use tx_flat::FlatCells;
 use tx_journal::JournalId;
-use tx_simple::{Seats, Work, update};
 use tx_store::{Store, Wire};
 use tx_types::{Mode, Ts};
+use tx_update::{Seats, Work, update};
 
 /// How long the locks of a client live, in ticks, where it does not say.
 const TTL: u32 = 1_000;

@@ -9,9 +9,9 @@ use crate::live::Live;
 use std::sync::Wait;
 use tx_journal::{JournalId, Reply, Request, Seat, Sender};
 use tx_resolve::{Counts, gc};
-use tx_simple::Seats;
 use tx_store::Wire;
 use tx_types::{Fault, Ts};
+use tx_update::Seats;
 
 /// What a collection dropped, and at which safe point: no read below that is answered any more.
 #[derive(Clone, Copy, Debug)]

@@ -5,14 +5,14 @@ ghost use Rattle.tx_types.specs.declared.key.Key.{Key};
 ghost use Rattle.tx_core.specs.Histories.{History};
 ghost use Rattle.tx_reader.specs.Readers.{IsKeyAnswer, IsPartAnswer, ReadsOn, ScansAt};
 ghost use Rattle.tx_plan.specs.declared.answer.Answer.TheVariants.{Rows};
-ghost use Rattle.tx_simple.specs.Reads.{SeesOn};
-ghost use Rattle.tx_simple.specs.Stops.{NamesKey};
+ghost use Rattle.tx_update.specs.Reads.{SeesOn};
+ghost use Rattle.tx_update.specs.Stops.{NamesKey};
 ghost use Rattle.tx_kv.specs.Views.{IsViewStop};
 
 use tx_client::Miss;
 use tx_core::Answer;
-use tx_simple::{Stop, stop_by};
 use tx_types::{KeyValues, Value};
+use tx_update::{Stop, stop_by};
 
 /// The value that a read of a key found.
 pub(crate) fn found_in(answered: Result<Answer, Miss>) -> Result<Option<Value>, Stop>

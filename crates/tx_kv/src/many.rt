@@ -5,16 +5,16 @@ ghost use Rattle.tx_core.specs.Histories.{last};
 ghost use Rattle.tx_core.specs.Shadow.{shadow};
 ghost use Rattle.tx_journal.specs.Senders.{IsSender, LosesNothing};
 ghost use Rattle.tx_reader.specs.Readers.{OnlySees};
-ghost use Rattle.tx_simple.specs.Reads.{SeesOn};
-ghost use Rattle.tx_simple.specs.Stops.{NamesKey};
+ghost use Rattle.tx_update.specs.Reads.{SeesOn};
+ghost use Rattle.tx_update.specs.Stops.{NamesKey};
 ghost use Rattle.tx_kv.specs.Views.{IsViewStop, SeesEach, SeesEachOn};
 
 use crate::found::found_in;
 use std::alloc::Global;
 use tx_journal::{JournalId, Reply, Request, Sender};
 use tx_reader::Reader;
-use tx_simple::Stop;
 use tx_types::{Key, KeyValue, Value};
+use tx_update::Stop;
 
 /// The last of these rows, so many at most, the last first.
 pub(crate) fn last_of(mut rows: Vec<KeyValue>, limit: u32) -> Vec<KeyValue>

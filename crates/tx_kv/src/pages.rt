@@ -4,15 +4,15 @@ ghost use Rattle.tx_types.specs.Keys.{key_lt};
 ghost use Rattle.tx_core.specs.Histories.{last};
 ghost use Rattle.tx_journal.specs.Senders.{IsSender, LosesNothing};
 ghost use Rattle.tx_reader.specs.Readers.{OnlySees};
-ghost use Rattle.tx_simple.specs.Ranges.{IsRestOf, end_of_page};
+ghost use Rattle.tx_update.specs.Ranges.{IsRestOf, end_of_page};
 ghost use Rattle.tx_kv.specs.Views.{IsViewStop, SeesRange};
 
 use crate::ranges::{page, rows_of};
 use std::alloc::Global;
 use tx_journal::{JournalId, Reply, Request, Sender};
 use tx_reader::Reader;
-use tx_simple::{KeyRange, Page, Stop, greatest, split_page};
 use tx_types::{Key, KeyValue};
+use tx_update::{KeyRange, Page, Stop, greatest, split_page};
 
 // How many rows are asked for, where so many are wanted: one more, at which the next page begins.
 fn asked_for(limit: u32) -> u32

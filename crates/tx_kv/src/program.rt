@@ -14,10 +14,10 @@ use std::sync::Wait;
 use std::thread::{Threads, map_vec};
 use tx_flat::FlatCells;
 use tx_journal::{JournalId, Opened};
-use tx_simple::Seats;
 use tx_store::Store;
 use tx_types::Fault;
 use tx_types::limits::MAX_SEATS;
+use tx_update::Seats;
 
 /// What a program does with the clients of a store. The store's journal has its name, `J`, in the
 /// type of each client, so that none is taken for another's.

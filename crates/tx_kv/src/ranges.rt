@@ -5,16 +5,16 @@ ghost use Rattle.tx_core.specs.Histories.{last};
 ghost use Rattle.tx_journal.specs.Senders.{IsSender, LosesNothing};
 ghost use Rattle.tx_reader.specs.Readers.{OnlySees};
 ghost use Rattle.tx_laws.specs.Rows.{AreRowsOf};
-ghost use Rattle.tx_simple.specs.Reads.{SeesOn};
+ghost use Rattle.tx_update.specs.Reads.{SeesOn};
 ghost use Rattle.tx_kv.specs.Views.{IsViewStop, SeesRange};
 
 use crate::found::{found_in, rows_in};
 use std::alloc::Global;
 use tx_journal::{JournalId, Reply, Request, Sender};
 use tx_reader::{Reader, end_of_part};
-use tx_simple::{KeyRange, Stop, add_last, add_rows, greatest, split_page};
 use tx_types::limits::MAX_SCAN_ROWS;
 use tx_types::{Fault, Key, KeyValue, KeyValues};
+use tx_update::{KeyRange, Stop, add_last, add_rows, greatest, split_page};
 
 /// The first rows, so many at most, of a range that lie in the region of its first key, and up to
 /// where that looked.

@@ -5,8 +5,8 @@ ghost use Rattle.tx_core.specs.Histories.{last};
 ghost use Rattle.tx_core.specs.Shadow.{shadow};
 ghost use Rattle.tx_journal.specs.Known.{HasDrawn};
 ghost use Rattle.tx_reader.specs.Readers.{OnlySees};
-ghost use Rattle.tx_simple.specs.Ranges.{IsRestOf, end_of_page};
-ghost use Rattle.tx_simple.specs.Stops.{NamesKey};
+ghost use Rattle.tx_update.specs.Ranges.{IsRestOf, end_of_page};
+ghost use Rattle.tx_update.specs.Stops.{NamesKey};
 ghost use Rattle.tx_kv.specs.Views.{IsViewStop, SeesEach, SeesRange};
 
 use crate::client::Client;
@@ -16,9 +16,9 @@ use crate::ranges::rows_of;
 use std::sync::Wait;
 use tx_journal::JournalId;
 use tx_reader::Reader;
-use tx_simple::{KeyRange, Page, Seats, Stop};
 use tx_store::Wire;
 use tx_types::{Fault, Key, KeyValue, Ts, Value};
+use tx_update::{KeyRange, Page, Seats, Stop};
 
 impl<'a, J: JournalId, R: Wait> Client<'a, J, R> {
     /// A timestamp that is drawn for reads: what was committed before is seen there, and what is

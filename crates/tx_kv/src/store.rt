@@ -9,10 +9,10 @@ use std::alloc::Global;
 use tx_cells::{Plain, make_families};
 use tx_flat::FlatCells;
 use tx_journal::{JournalId, Opened, Seat};
-use tx_simple::Seats;
 use tx_store::Store;
 use tx_types::limits::MAX_SEATS;
 use tx_types::{Fault, Key};
+use tx_update::Seats;
 
 /// A store, and the seats of its clients, by twos.
 pub(crate) type Made<J> = (Store<J, FlatCells>, Vec<Seats<J>>);

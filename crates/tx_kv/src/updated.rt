@@ -6,8 +6,8 @@ ghost use Rattle.tx_kv.specs.UpdateResults.{told_stop, told_commit, told_reads, 
 use thiserror::Error;
 use tx_core::Outcome;
 use tx_journal::JournalId;
-use tx_simple::{Ended, Failure, Seats, Stop, Unended};
 use tx_types::Ts;
+use tx_update::{Ended, Failure, Seats, Stop, Unended};
 
 /// An update that went well.
 #[derive(Debug, Drop)]

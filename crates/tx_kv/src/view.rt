@@ -5,8 +5,8 @@ ghost use Rattle.tx_core.specs.Histories.{last};
 ghost use Rattle.tx_core.specs.Shadow.{shadow};
 ghost use Rattle.tx_journal.specs.Known.{HasDrawn};
 ghost use Rattle.tx_reader.specs.Readers.{OnlySees};
-ghost use Rattle.tx_simple.specs.Ranges.{IsRestOf, end_of_page};
-ghost use Rattle.tx_simple.specs.Stops.{NamesKey};
+ghost use Rattle.tx_update.specs.Ranges.{IsRestOf, end_of_page};
+ghost use Rattle.tx_update.specs.Stops.{NamesKey};
 ghost use Rattle.tx_kv.specs.Views.{IsViewStop, SeesEach, SeesLast, SeesRange};
 
 use crate::client::Client;
@@ -14,8 +14,8 @@ use crate::many::last_of;
 use std::alloc::Global;
 use std::sync::Wait;
 use tx_journal::JournalId;
-use tx_simple::{KeyRange, Page, Stop};
 use tx_types::{Fault, Key, KeyValue, Ts, Value};
+use tx_update::{KeyRange, Page, Stop};
 
 /// Reads of a client alone, at one timestamp: a view of the store as it was there. It is no
 /// transaction: nothing is written, and nothing is to be ended. As long as it is there, its client

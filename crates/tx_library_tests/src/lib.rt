@@ -19,12 +19,12 @@ mod planning_tests;
 #[cfg(test)]
 mod scenarios;
 #[cfg(test)]
-mod simple_tests;
-#[cfg(test)]
 mod store_tests;
 #[cfg(test)]
 mod stores;
 #[cfg(test)]
 mod table_tests;
+#[cfg(test)]
+mod update_tests;
 #[cfg(test)]
 mod words;

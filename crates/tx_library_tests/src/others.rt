@@ -4,8 +4,8 @@ ghost use Rattle.tx_journal.specs.Senders.{IsSender};
 use crate::words::{OK, Short, by_fault, by_status};
 use tx_client::{Decision, Met, Resolved, Session, Status};
 use tx_journal::{JournalId, Reply, Request, Seat, Sender};
-use tx_simple::resolve_met;
 use tx_types::{Fate, Ts};
+use tx_update::resolve_met;
 
 /// The lock that a session met, where there is memory to tell of it.
 pub fn met_by<J: JournalId>(session: &mut Session<J>) -> Option<Met<J>> {

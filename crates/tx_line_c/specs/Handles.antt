@@ -1,7 +1,7 @@
 -- What C hands over with a handle: the name of its journal, the block that it points to, the store
 -- in it at that name, and the right to free the block.
-use Rattle.std.specs.Prelude.{◌≡◌, ◌+◌, length}
-use base.Fml.{Fml}
+use Rattle.std.specs.Prelude.{◌≡◌, ◌+◌, ℕ, List, [], ◌∷◌, length, Option, Some, None, IfOk, IsOk}
+use base.Fml.{Fml, ftrue}
 use denote.RawPtr.{Ptr}
 use Rattle.std.specs.Global.{Global}
 use Rattle.std_heap.specs.contracts.GlobalAllocator.TheImpl.{ghosts}
@@ -10,7 +10,9 @@ use Rattle.std.specs.contracts.marker.Brand as brand
 use Rattle.tx_types.specs.declared.limits.TheConstants.{MAX_LIVE_SESSIONS}
 use Rattle.tx_journal.specs.declared.view.JournalId as id
 use Rattle.tx_journal.specs.Known.{Opening}
-use Rattle.tx_script.specs.Players.{IsPlayer}
+use Rattle.tx_evidence.specs.Lines.{bounds_of}
+use Rattle.tx_reply.specs.Replies.{reply_words}
+use Rattle.tx_script.specs.Players.{IsPlayer, HasPlayed}
 use Rattle.tx_line_store.specs.Lines.{LinesState}
 use Rattle.tx_line_store.specs.contracts.store.LineStore as store
 
@@ -27,6 +29,18 @@ named o = record { table = o.table; bounds = o.bounds; seats = o.seats }
 abbrev pub owns_store : Global → Ptr → Held → Fml
 owns_store alloc at h = box_owns (ghosts.dealloc_token alloc) (store.the_row brand.the_row (named h.name)) at h.state
 
+-- the store that an open has made lies at the address, where it has made one
+abbrev pub owns_made : Global → Ptr → Option Held → Fml
+owns_made alloc at None = ftrue
+owns_made alloc at (Some h) = owns_store alloc at h
+
 -- it stands between two lines, and its journal has the seats of one
 abbrev pub IsHeld : Held → Type 0
 IsHeld h = IsPlayer h.name.bounds h.state.player × (h.name.seats ≡ length h.name.bounds + 2 + MAX_LIVE_SESSIONS)
+
+-- it has played its first line, which says its regions, over a store that held nothing, and the
+-- reply is what the line means there
+abbrev pub HasBegun : List ℕ → Held → Type 0
+HasBegun line h = (h.name.bounds ≡ bounds_of (line ∷ [])) × (h.state.number ≡ 1) × IsOk h.state.said
+    × IfOk h.state.said (λ reply.
+    HasPlayed h.name.bounds (line ∷ []) ((1, reply_words reply) ∷ []) h.state.player)

@@ -1,12 +1,12 @@
 //! The four functions. A slice crosses as a pointer and a length, an allocator as nothing.
-ghost use Rattle.std.specs.Prelude.{◌≡◌, ◌⊎◌, ℕ, List, true, false, length};
+ghost use Rattle.std.specs.Prelude.{◌≡◌, ◌⊎◌, ℕ, List, true, false, length, Option, IfSome, IfNone};
 ghost use types.Logic.{sem};
 ghost use Rattle.serde_json.specs.Data.{Items};
 ghost use Rattle.tx_script.specs.Players.{HasPlayed, EndWellWith};
 ghost use Rattle.tx_line_store.specs.Lines.{said_text, laid_over, IsPlayed, IsKept};
-ghost use Rattle.tx_line_c.specs.Handles.{owns_store, Held, IsHeld};
+ghost use Rattle.tx_line_c.specs.Handles.{owns_store, owns_made, Held, IsHeld, HasBegun};
 
-use crate::held::{end, open, play, reply};
+use crate::held::{OPEN, end, found, made, play, reply};
 use std::alloc::Global;
 use std::marker::Brand;
 use tx_line_store::LineStore;
@@ -15,9 +15,18 @@ use tx_line_store::LineStore;
 /// 0 where memory was refused, 2 where that line is a fault, and then nothing is written.
 #[unsafe(no_mangle)]
 pub extern "C" fn txkv_lines_open(alloc: Global, first: &[u8], at: &mut *mut u8) -> u32
-    ensures { (result ≡ 1) ⊎ (at.new ≡ at.old) }
+    ensures kept { (result ≡ 1) ⊎ (at.new ≡ at.old) }
+    ensures* opened { ∃ₛ (λ (made : Option Held). sem 𝓛 (owns_made alloc at.new made)
+        ∗ ⌜ IfSome made (λ h. (result ≡ 1) × IsHeld h × HasBegun first.now h)
+        × IfNone made ((result ≡ 0) ⊎ (result ≡ 2)) ⌝) }
 {
-    open(alloc, first, at)
+    match made::<Brand>(alloc, found(alloc, first), first) {
+        Ok(store) => {
+            *at = Box::into_raw(store) as *mut u8;
+            OPEN
+        }
+        Err(code) => code,
+    }
 }
 
 /// Plays a line, without its newline: true. False where memory was refused before it was played,

@@ -1,4 +1,4 @@
-//! Spellings of keys and records, timelines, and the same scenarios on both families.
+//! Spellings of keys and records, tuples, timelines, and the same scenarios on both families.
 #![tactic(auto)]
 
 #[cfg(test)]
@@ -7,3 +7,5 @@ mod cells;
 mod codec;
 #[cfg(test)]
 mod timeline;
+#[cfg(test)]
+mod tuples;

@@ -1,3 +1,4 @@
+pub mod Kept
 pub mod Nested
 pub mod Indexes
 pub mod Seen

@@ -8,22 +8,14 @@ ghost use Rattle.tx_cells.specs.Contents.{cells_of};
 ghost use Rattle.tx_cells.specs.Afterwards.{after, after_left};
 
 use crate::key::KeyFamilies;
+use crate::records::HeldWrite;
 use crate::timeline::Timeline;
-use std::alloc::Global;
 use tx_plan::{KeyChange, Left};
-use tx_records::{
-    WriteBytes, commit_record, lock_with_min, lock_with_ttl, marked_record, rollback_record,
-};
 use tx_types::{Fault, Ts};
 
 /// Leaves the rollback of the transaction that started then. `OutOfMemory` leaves the records as
 /// they were.
-fn leave(
-    writes: &mut Timeline<WriteBytes>,
-    alloc: Global,
-    start: Ts,
-    left: Left,
-) -> Result<(), Fault>
+fn leave(writes: &mut Timeline<HeldWrite>, start: Ts, left: Left) -> Result<(), Fault>
     ensures ok { OnOk result ((q : ℕ) → tree.get nat_cmp writes.new q
         ≡ after_left (tree.get nat_cmp writes.old) start left q) }
     ensures same { OnErr result (writes.new.entries ≡ writes.old.entries) }
@@ -32,13 +24,12 @@ fn leave(
     match left {
         Left::Already => Ok(()),
         Left::Record => {
-            let rec = rollback_record(alloc, start)?;
-            writes.insert(start, rec)?;
+            writes.insert(start, HeldWrite::rollback(start))?;
             Ok(())
         }
         Left::Mark => {
             let rec = match writes.get(start) {
-                Some(bytes) => marked_record(alloc, bytes)?,
+                Some(rec) => rec.marked()?,
                 None => return Ok(()),
             };
             writes.insert(start, rec)?;
@@ -51,39 +42,29 @@ impl KeyFamilies {
     ghost use Rattle.tx_nested.specs.Nested.{held};
 
     // Gives the lock another time to live.
-    fn set_ttl(&mut self, alloc: Global, ttl: u32) -> Result<(), Fault>
+    fn set_ttl(&mut self, ttl: u32)
         requires { SomeLock (cells_of (held self.old)).lock }
-        ensures ok { OnOk result (held self.new ≡ after (held self.old) (change.Ttl ttl)) }
-        ensures same { OnErr result (held self.new ≡ held self.old) }
+        ensures set { held self.new ≡ after (held self.old) (change.Ttl ttl) }
         ensures number { self.new.number ≡ self.old.number }
-        ensures err { IfErr result (λ e. e ≡ Fault.OutOfMemory) }
     {
-        let Some(lock) = &self.lock else {
-            return Ok(());
-        };
-        let rec = lock_with_ttl(alloc, lock, ttl)?;
-        self.lock = Some(rec);
-        Ok(())
+        if let Some(lock) = &mut self.lock {
+            lock.set_ttl(ttl);
+        }
     }
 
     // Gives the lock another minimum.
-    fn set_minimum(&mut self, alloc: Global, min: Ts) -> Result<(), Fault>
+    fn set_minimum(&mut self, min: Ts)
         requires { RaisesMinimum (cells_of (held self.old)).lock min }
-        ensures ok { OnOk result (held self.new ≡ after (held self.old) (change.Minimum min)) }
-        ensures same { OnErr result (held self.new ≡ held self.old) }
+        ensures set { held self.new ≡ after (held self.old) (change.Minimum min) }
         ensures number { self.new.number ≡ self.old.number }
-        ensures err { IfErr result (λ e. e ≡ Fault.OutOfMemory) }
     {
-        let Some(lock) = &self.lock else {
-            return Ok(());
-        };
-        let rec = lock_with_min(alloc, lock, min)?;
-        self.lock = Some(rec);
-        Ok(())
+        if let Some(lock) = &mut self.lock {
+            lock.set_min(min);
+        }
     }
 
     // Makes a commit record of the lock. `OutOfMemory` leaves the key as it was.
-    fn commit(&mut self, alloc: Global, commit: Ts, overlapped_rollback: bool) -> Result<(), Fault>
+    fn commit(&mut self, commit: Ts, overlapped_rollback: bool) -> Result<(), Fault>
         requires { HasCommitAt (cells_of (held self.old)) commit overlapped_rollback }
         ensures ok { OnOk result (held self.new ≡ after (held self.old) (change.Commit commit overlapped_rollback)) }
         ensures same { OnErr result (held self.new ≡ held self.old) }
@@ -95,20 +76,14 @@ impl KeyFamilies {
         let Some(lock) = &self.lock else {
             return Ok(());
         };
-        let rec = commit_record(alloc, lock, overlapped_rollback)?;
+        let rec = lock.commit_record(overlapped_rollback)?;
         self.writes.insert(commit, rec)?;
         self.lock = None;
         Ok(())
     }
 
     // Rolls a transaction back. `OutOfMemory` leaves the key as it was.
-    fn roll_back(
-        &mut self,
-        alloc: Global,
-        start: Ts,
-        removes_lock: bool,
-        left: Left,
-    ) -> Result<(), Fault>
+    fn roll_back(&mut self, start: Ts, removes_lock: bool, left: Left) -> Result<(), Fault>
         requires { Applies (cells_of (held self.old)) (change.RollBack start removes_lock left) }
         ensures ok { OnOk result (held self.new ≡ after (held self.old) (change.RollBack start removes_lock left)) }
         ensures same { OnErr result (held self.new ≡ held self.old) }
@@ -117,7 +92,7 @@ impl KeyFamilies {
     {
         // For proofs: it is a number of 64 bits.
         let _ticks = start.get();
-        leave(&mut self.writes, alloc, start, left)?;
+        leave(&mut self.writes, start, left)?;
         if !removes_lock {
             return Ok(());
         }
@@ -127,7 +102,7 @@ impl KeyFamilies {
     }
 
     // Makes a change. `OutOfMemory` leaves the key as it was.
-    fn make(&mut self, alloc: Global, change: KeyChange) -> Result<(), Fault>
+    fn make(&mut self, change: KeyChange) -> Result<(), Fault>
         requires { Applies (cells_of (held self.old)) change }
         ensures ok { OnOk result (held self.new ≡ after (held self.old) change) }
         ensures cells { OnOk result (cells_of (held self.new) ≡ changed (cells_of (held self.old)) change) }
@@ -138,28 +113,29 @@ impl KeyFamilies {
         match change {
             KeyChange::Nothing => Ok(()),
             KeyChange::Lock(_) => Ok(()),
-            KeyChange::Ttl(ttl) => self.set_ttl(alloc, ttl),
-            KeyChange::Minimum(min) => self.set_minimum(alloc, min),
+            KeyChange::Ttl(ttl) => {
+                self.set_ttl(ttl);
+                Ok(())
+            }
+            KeyChange::Minimum(min) => {
+                self.set_minimum(min);
+                Ok(())
+            }
             KeyChange::Commit {
                 commit,
                 overlapped_rollback,
-            } => self.commit(alloc, commit, overlapped_rollback),
+            } => self.commit(commit, overlapped_rollback),
             KeyChange::RollBack {
                 start,
                 removes_lock,
                 left,
-            } => self.roll_back(alloc, start, removes_lock, left),
+            } => self.roll_back(start, removes_lock, left),
         }
     }
 
     /// Makes a change, and notes the number where it is one. `OutOfMemory` leaves the key as it
     /// was.
-    pub(crate) fn apply(
-        &mut self,
-        alloc: Global,
-        change: KeyChange,
-        number: u64,
-    ) -> Result<(), Fault>
+    pub(crate) fn apply(&mut self, change: KeyChange, number: u64) -> Result<(), Fault>
         requires { Applies (cells_of (held self.old)) change }
         ensures ok { OnOk result (held self.new ≡ after (held self.old) change) }
         ensures cells { OnOk result (cells_of (held self.new) ≡ changed (cells_of (held self.old)) change) }
@@ -168,7 +144,7 @@ impl KeyFamilies {
         ensures kept { OnErr result (self.new.number ≡ self.old.number) }
         ensures err { IfErr result (λ e. e ≡ Fault.OutOfMemory) }
     {
-        self.make(alloc, change)?;
+        self.make(change)?;
         self.number = number;
         Ok(())
     }

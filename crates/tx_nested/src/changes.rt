@@ -52,10 +52,10 @@ impl Changes for NestedCells {
         }
         let spelt = key.bytes();
         if let Some(on_key) = self.keys.get_mut(spelt) {
-            return on_key.apply(alloc, change, number);
+            return on_key.apply(change, number);
         }
         let mut on_key = KeyFamilies::new(alloc);
-        on_key.apply(alloc, change, number)?;
+        on_key.apply(change, number)?;
         let key = spelt.copy(alloc)?;
         self.keys.insert(key, on_key)?;
         Ok(())

@@ -8,22 +8,22 @@ ghost use Rattle.tx_cells.specs.Contents.{cells_of};
 ghost use Rattle.tx_cells.specs.Heads.{record_kind};
 
 use crate::key::KeyFamilies;
+use crate::records::HeldWrite;
 use crate::timeline::Timeline;
 use tx_plan::{KeyCollection, KeyRecords, RecordKind, collect_key};
-use tx_records::{WriteBytes, kind_of};
 use tx_types::Ts;
 
 /// What collection asks of the record nearest to the bound, at it or below.
-fn kind_upto(writes: &Timeline<WriteBytes>, bound: Ts) -> Option<(Ts, RecordKind)>
+fn kind_upto(writes: &Timeline<HeldWrite>, bound: Ts) -> Option<(Ts, RecordKind)>
     ensures found { IfSome result (λ x. (x.0 ≤ bound)
         × (option_map record_kind (tree.get nat_cmp writes.now x.0) ≡ Some x.1)) }
     ensures nearest { IfSome result (λ x. (q : ℕ) → q ≤ bound → IsSome (tree.get nat_cmp writes.now q) → q ≤ x.0) }
     ensures none { IfNone result ((q : ℕ) → q ≤ bound → tree.get nat_cmp writes.now q ≡ None) }
 {
-    let Some((at, bytes)) = writes.upto(bound) else {
+    let Some((at, rec)) = writes.upto(bound) else {
         return None;
     };
-    Some((at, kind_of(bytes)))
+    Some((at, rec.kind()))
 }
 
 /// The write records of one key.

@@ -9,19 +9,19 @@ ghost use Rattle.tx_cells.specs.Afterwards.{Collected};
 ghost use Rattle.tx_cells.specs.Drops.{ValuesGo, DropsValue};
 
 use crate::key::KeyFamilies;
+use crate::records::HeldWrite;
 use crate::timeline::Timeline;
 use std::collections::BTreeMap;
 use tx_plan::KeyCollection;
-use tx_records::WriteBytes;
 use tx_types::{Ts, Value};
 
 /// Drops the value that the record at a timestamp keeps apart.
-fn drop_value(writes: &Timeline<WriteBytes>, values: &mut BTreeMap<Ts, Value>, at: Ts)
+fn drop_value(writes: &Timeline<HeldWrite>, values: &mut BTreeMap<Ts, Value>, at: Ts)
     ensures { DropsValue (tree.get nat_cmp writes.now at) (tree.get nat_cmp values.old) (tree.get nat_cmp values.new) }
 {
-    if let Some(bytes) = writes.get(at) {
-        if bytes.keeps_value_apart() {
-            values.remove(&bytes.start());
+    if let Some(rec) = writes.get(at) {
+        if rec.keeps_value_apart() {
+            values.remove(&rec.start());
         }
     }
 }
@@ -29,7 +29,7 @@ fn drop_value(writes: &Timeline<WriteBytes>, values: &mut BTreeMap<Ts, Value>, a
 /// Drops the values that the records below the safe point keep apart, but for the one that stays,
 /// if one does.
 fn drop_values(
-    writes: &Timeline<WriteBytes>,
+    writes: &Timeline<HeldWrite>,
     values: &mut BTreeMap<Ts, Value>,
     safe: Ts,
     stay: Option<Ts>,
@@ -49,7 +49,7 @@ fn drop_values(
 /// Drops all records below the safe point but the one that stays, if one does, with the values that
 /// they keep apart.
 fn drop_records(
-    writes: &mut Timeline<WriteBytes>,
+    writes: &mut Timeline<HeldWrite>,
     values: &mut BTreeMap<Ts, Value>,
     safe: Ts,
     stay: Option<Ts>,

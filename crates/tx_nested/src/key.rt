@@ -3,18 +3,18 @@ ghost use Rattle.std.specs.BTreeMap as tree;
 ghost use Rattle.std.specs.Ordering.{nat_cmp};
 ghost use Rattle.tx_cells.specs.Contents.{IsWhole};
 
+use crate::records::{HeldLock, HeldWrite};
 use crate::timeline::Timeline;
 use std::alloc::Global;
 use std::collections::BTreeMap;
-use tx_records::{LockBytes, WriteBytes};
 use tx_types::{Ts, Value};
 
 /// The lock record of a key, its write records by timestamp, which mostly come in that order, and
 /// its long values by the start of the transaction that put them.
 #[derive(Drop)]
 pub(crate) struct KeyFamilies {
-    pub lock: Option<LockBytes>,
-    pub writes: Timeline<WriteBytes>,
+    pub lock: Option<HeldLock>,
+    pub writes: Timeline<HeldWrite>,
     pub values: BTreeMap<Ts, Value>,
     /// The number of the request that changed the key last.
     pub number: u64,

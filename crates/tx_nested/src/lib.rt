@@ -16,6 +16,7 @@ mod key;
 mod lock_info;
 mod put_lock;
 mod read;
+mod records;
 mod searches;
 mod sees;
 mod timeline;

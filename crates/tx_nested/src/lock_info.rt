@@ -16,7 +16,7 @@ impl KeyFamilies {
         ensures err { IfErr result (λ e. e ≡ Fault.OutOfMemory) }
     {
         match &self.lock {
-            Some(bytes) => Ok(Some(bytes.read(alloc)?.info(alloc, key)?)),
+            Some(lock) => Ok(Some(lock.info(alloc, key)?)),
             None => Ok(None),
         }
     }

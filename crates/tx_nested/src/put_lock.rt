@@ -5,9 +5,10 @@ ghost use Rattle.tx_cells.specs.Contents.{cells_of};
 ghost use Rattle.tx_cells.specs.Afterwards.{put_on};
 
 use crate::key::KeyFamilies;
+use crate::records::HeldLock;
 use std::alloc::Global;
 use tx_plan::{NewLock, Prewrite};
-use tx_records::{apart, lock_bytes};
+use tx_records::apart;
 use tx_types::Fault;
 
 impl KeyFamilies {
@@ -29,7 +30,7 @@ impl KeyFamilies {
         ensures kept { OnErr result (self.new.number ≡ self.old.number) }
         ensures err { IfErr result (λ e. e ≡ Fault.OutOfMemory) }
     {
-        let rec = lock_bytes(alloc, body, new)?;
+        let rec = HeldLock::new(alloc, body, new)?;
         match apart(&body.mutation)? {
             Some(value) => {
                 self.values.insert(body.start, value)?;

@@ -25,8 +25,9 @@ impl Sees for NestedCells {
     }
 
     fn read(&self, alloc: Global, key: &EncodedKey<'_>, at: Ts) -> Result<ReadView, Fault> {
+        let _ = alloc;
         match self.keys.get(key.bytes()) {
-            Some(on_key) => on_key.read(alloc, at),
+            Some(on_key) => on_key.read(at),
             None => Ok(ReadView {
                 lock: None,
                 value: None,

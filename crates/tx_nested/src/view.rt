@@ -8,7 +8,6 @@ use crate::key::KeyFamilies;
 use crate::searches::{NestedHistory, head_at};
 use tx_cells::{Above, commits_above};
 use tx_plan::{LockHead, TxnView};
-use tx_records::lock_head_of;
 use tx_types::Ts;
 
 /// What is seen of a key of which nothing is held.
@@ -33,7 +32,7 @@ impl KeyFamilies {
         ensures { result ≡ option_map lock_head self.now.lock }
     {
         match &self.lock {
-            Some(bytes) => Some(lock_head_of(bytes)),
+            Some(lock) => Some(lock.head()),
             None => None,
         }
     }

@@ -32,7 +32,7 @@ impl<'a> ReadWalk for NestedReads<'a> {
         let Some((key, on_key)) = self.keys.next() else {
             return Ok(None);
         };
-        let view = on_key.read(alloc, at)?;
+        let view = on_key.read(at)?;
         Ok(Some((key.read(alloc)?, view)))
     }
 

@@ -148,19 +148,30 @@ impl<J: JournalId, F: Families> Network<J, F> {
         }
     }
 
-    /// The region that holds a request takes it, having learnt what is newest; what it then knows
-    /// is the newest. What it answered is noted.
+    /// The region that holds the request of a reply takes it, having learnt what is newest, and
+    /// leaves the answer in the reply; what it then knows is the newest. What it answered is noted.
+    pub fn take_in(&mut self, place: &mut Reply<J>)
+        requires { IsHeld J.bounds place.old.request.body }
+        ensures { Hands (region_for J.bounds place.old.request.body) self.old self.new place.old.request place.new }
+    {
+        let index = self.index_of(place.body());
+        let region = &mut self.regions[index];
+        let told = region.copy(&mut self.newest);
+        region.learn(told);
+        region.take_in(place);
+        self.newest = region.tell();
+        note_reply(&mut self.trace, &*place);
+    }
+
+    /// The same of a request that stands in no reply yet.
     pub fn take(&mut self, request: Request<J>) -> Reply<J>
         requires { IsHeld J.bounds request.body }
         ensures { Hands (region_for J.bounds request.body) self.old self.new request result }
     {
-        let index = self.index_of(request.body());
-        let region = &mut self.regions[index];
-        let told = region.copy(&mut self.newest);
-        region.learn(told);
-        let reply = region.take(request);
-        self.newest = region.tell();
-        note_reply(&mut self.trace, &reply);
+        let told = self.newest();
+        told.show();
+        let mut reply = Reply::new(request, None, told);
+        self.take_in(&mut reply);
         reply
     }
 

@@ -5,7 +5,11 @@ pub(crate) static HEAD: &str = r#"<!doctype html>
 <html lang="en">
 <head>
 <meta charset="utf-8">
-<meta http-equiv="Content-Security-Policy" content="default-src 'none'; style-src 'sha256-PuExGv+jw0X7AKaE2FG9QNgF8W3XQNc3dHpuTDINcf8=' 'sha256-MA+W6U+o5qRuIqD1JZKn049mc5Z2wQwku8N3XNYL6P8='; script-src 'sha256-ERguBnXGNneO+YF5s0JYqyPAMVKePEkc89qprTl5ytw='; base-uri 'none'; form-action 'none'">
+<meta http-equiv="Content-Security-Policy" content="default-src 'none';
+style-src 'sha256-BSglJXkIMJMBBcTgP22keWDMirynTDfZhgvIWKDSZPE='
+'sha256-R995+T66JVyD3ZQLtEA64yNUu9LEwtsbLJpyy6lIygk=';
+script-src 'sha256-6UNgASODMtRoh34gNzxj0qVdym4TPYTxNpEa0N+4VUU=';
+base-uri 'none'; form-action 'none'">
 <meta name="referrer" content="no-referrer">
 <meta name="viewport" content="width=device-width, initial-scale=1">
 <title>The run of a script</title>
@@ -86,7 +90,7 @@ svg{display:block}
 svg>rect:first-of-type{fill:var(--paper)}
 svg text{fill:var(--ink)}
 svg .number,svg .region{fill:var(--soft)}
-svg .seen{fill:var(--ink)}
+svg .seen,svg .sign{fill:var(--ink)}
 svg .refused,svg .reason{fill:var(--bad)}
 svg .back{fill:var(--paper)}
 svg .even{fill:var(--even)}

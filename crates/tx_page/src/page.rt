@@ -10,6 +10,7 @@ use crate::head::HEAD;
 use crate::lines::{replies_of, script_of, steps_of};
 use crate::table::rows_of;
 use std::alloc::{AllocError, Global};
+use tx_cut::whole_of;
 use tx_drawing::svg_of;
 use tx_film::Film;
 use tx_html::{PageFrame, PageParts, put_page};
@@ -39,8 +40,9 @@ pub fn page_of(alloc: Global, keys: &[Key], lines: &[&[u8]], film: &Film) -> Res
     ensures { IfOk result (λ text. PageOf (map (λ line. line.now) lines.now) film.now text.items) }
 {
     let sheet = sheet_of(alloc, keys, lines, film, true)?;
-    let drawing = svg_of(alloc, &sheet)?;
-    let rows = rows_of(alloc, &sheet)?;
+    let whole = whole_of(alloc, &sheet)?;
+    let drawing = svg_of(alloc, &whole)?;
+    let rows = rows_of(alloc, &whole)?;
     let script = script_of(alloc, lines)?;
     let replies = replies_of(alloc, film)?;
     let steps = steps_of(alloc, film)?;

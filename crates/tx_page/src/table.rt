@@ -1,8 +1,9 @@
 //! The lines of a run as rows of a table.
 use std::alloc::{AllocError, Global};
+use tx_cut::{Part, ShownRow};
 use tx_drawing::put_text;
 use tx_picture::{changed_words, put_sending};
-use tx_sheet::{Row, Sheet, put_number, shown};
+use tx_sheet::{Row, put_number, shown};
 
 // Appends a cell of these words.
 fn put_cell(out: &mut String, words: &str) -> Result<(), AllocError> {
@@ -15,14 +16,11 @@ fn put_cell(out: &mut String, words: &str) -> Result<(), AllocError> {
 fn put_session(
     alloc: Global,
     out: &mut String,
-    sheet: &Sheet,
+    part: &Part<'_>,
     row: &Row,
 ) -> Result<(), AllocError> {
-    let Some(place) = row.session else {
-        return put_cell(out, "");
-    };
-    match sheet.sessions.get(place) {
-        Some(session) => put_cell(out, shown(alloc, session.name.as_str())?.as_str()),
+    match part.life_of(row) {
+        Some(life) => put_cell(out, shown(alloc, life.name)?.as_str()),
         None => put_cell(out, ""),
     }
 }
@@ -49,14 +47,14 @@ fn put_machine(alloc: Global, out: &mut String, row: &Row) -> Result<(), AllocEr
     put_cell(out, words.as_str())
 }
 
-// Appends the row of this number: an element with that as its name, so that an address can name it.
+// Appends a row: an element with its number as its name, so that an address can name it.
 fn put_row(
     alloc: Global,
     out: &mut String,
-    sheet: &Sheet,
-    number: u64,
-    row: &Row,
+    part: &Part<'_>,
+    shown: ShownRow<'_>,
 ) -> Result<(), AllocError> {
+    let ShownRow { number, row } = shown;
     out.push_str("<tr id=\"")?;
     put_number(out, number)?;
     out.push_str(if row.is_refused() {
@@ -67,28 +65,22 @@ fn put_row(
     out.push_str("<th scope=\"row\">")?;
     put_number(out, number)?;
     out.push_str("</th>")?;
-    put_session(alloc, out, sheet, row)?;
+    put_session(alloc, out, part, row)?;
     let mut step = String::from_str(alloc, row.step.as_str())?;
     put_sending(&mut step, row)?;
     put_cell(out, step.as_str())?;
     put_reply(alloc, out, row)?;
-    let changed = changed_words(alloc, sheet.keys.as_slice(), row.changes.as_slice())?;
+    let changed = changed_words(alloc, part, row.changes.as_slice())?;
     put_cell(out, changed.as_str())?;
     put_machine(alloc, out, row)?;
     out.push_str("</tr>\n")
 }
 
 /// The lines of a run as rows of a table, as markup.
-pub(crate) fn rows_of(alloc: Global, sheet: &Sheet) -> Result<String, AllocError> {
+pub(crate) fn rows_of(alloc: Global, part: &Part<'_>) -> Result<String, AllocError> {
     let mut out = String::new(alloc);
-    'rows: for (place, row) in sheet.rows.iter().enumerate() {
-        put_row(
-            alloc,
-            &mut out,
-            sheet,
-            (place as u64).saturating_add(1),
-            row,
-        )?;
+    'rows: for shown in &part.rows {
+        put_row(alloc, &mut out, part, *shown)?;
     }
     Ok(out)
 }

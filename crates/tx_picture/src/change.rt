@@ -1,6 +1,7 @@
 //! What changed of a key, in words.
 use std::alloc::{AllocError, Global};
-use tx_sheet::{Change, KeyColumn, Kind, SeenLock, SeenRecord, is_same_lock, put_stamp};
+use tx_cut::Part;
+use tx_sheet::{Change, Kind, SeenLock, SeenRecord, is_same_lock, put_stamp};
 
 // Appends what a lock will do and the value of a put, whose it is by start, and its minimum.
 fn put_lock(out: &mut String, lock: SeenLock, value: &str) -> Result<(), AllocError> {
@@ -80,15 +81,15 @@ fn put_change(out: &mut String, key: &str, change: &Change) -> Result<(), AllocE
     put_records(out, key, "-", change.went.as_slice())
 }
 
-/// What changed of keys, in words.
+/// What changed of the keys of a part, in words.
 pub fn changed_words(
     alloc: Global,
-    keys: &[KeyColumn],
+    part: &Part<'_>,
     changes: &[Change],
 ) -> Result<String, AllocError> {
     let mut out = String::new(alloc);
     'changes: for change in changes {
-        if let Some(key) = keys.get(change.key) {
+        if let Some(key) = part.key(change.key) {
             put_change(&mut out, key.name.as_str(), change)?;
         }
     }

@@ -1,107 +1,19 @@
-//! A sheet as text.
-use crate::change::changed_words;
+//! A part of a sheet as text.
+use crate::columns::{BETWEEN, Column, Columns, MARGIN};
+use crate::entry::{Entry, entries_of};
+use crate::wrap::{Room, put_spaces, put_words};
 use std::alloc::{AllocError, Global};
-use tx_sheet::{KeyColumn, Row, Sending, Sheet, places, put_number, shown};
-
-/// The widest that a column is, but for the two places between columns.
-const MAX_WIDTH: usize = 34;
-
-// A column of a sheet: where it begins, and how wide it is.
-#[derive(Clone, Copy, Drop)]
-struct Column {
-    begins: usize,
-    width: usize,
-}
-
-// Appends so many spaces.
-fn put_spaces(out: &mut String, count: usize) -> Result<(), AllocError> {
-    for _ in 0..count {
-        out.push(' ')?;
-    }
-    Ok(())
-}
-
-/// Appends how a request was sent, where that says more than the step.
-pub fn put_sending(out: &mut String, row: &Row) -> Result<(), AllocError> {
-    match row.sending {
-        Sending::Plain | Sending::Delivered => Ok(()),
-        Sending::Lost => out.push_str(" [lost]"),
-        Sending::ReplyLost => out.push_str(" [reply lost]"),
-        Sending::Twice => out.push_str(" [twice]"),
-        Sending::Held => {
-            out.push_str(" [held as ")?;
-            out.push_str(row.held.as_str())?;
-            out.push(']')
-        }
-    }
-}
-
-// The entry of a row: its step, its delivery and what was replied.
-fn entry_of(alloc: Global, row: &Row) -> Result<String, AllocError> {
-    let mut entry = String::from_str(alloc, row.step.as_str())?;
-    put_sending(&mut entry, row)?;
-    if !row.answer.is_empty() {
-        entry.push_str(" -> ")?;
-        entry.push_str(row.answer.as_str())?;
-    }
-    Ok(entry)
-}
-
-// The entries of all rows.
-fn entries_of(alloc: Global, rows: &[Row]) -> Result<Vec<String>, AllocError> {
-    let mut entries = Vec::new(alloc);
-    'rows: for row in rows {
-        entries.push(entry_of(alloc, row)?)?;
-    }
-    Ok(entries)
-}
-
-// The width of the widest entry of a column.
-fn widest_entry(sheet: &Sheet, entries: &[String], column: usize) -> usize {
-    let mut width = 0;
-    'rows: for (row, entry) in sheet.rows.iter().zip(entries) {
-        if sheet.column_of(row) == Some(column) {
-            width = places(entry.as_str()).max(width);
-        }
-    }
-    width
-}
-
-// The width of the widest name at the head of a column.
-fn widest_name(alloc: Global, sheet: &Sheet, column: usize) -> Result<usize, AllocError> {
-    let mut width = 0;
-    'sessions: for session in &sheet.sessions {
-        if session.column == column {
-            let name = shown(alloc, session.name.as_str())?;
-            width = places(name.as_str()).max(width);
-        }
-    }
-    Ok(width)
-}
-
-// The columns of sessions, and where what changed begins.
-fn columns_of(
-    alloc: Global,
-    sheet: &Sheet,
-    entries: &[String],
-) -> Result<(Vec<Column>, usize), AllocError> {
-    let mut columns = Vec::new(alloc);
-    let mut begins = 0usize;
-    for place in 0..sheet.columns {
-        let widest = widest_entry(sheet, entries, place);
-        let width = widest_name(alloc, sheet, place)?.max(widest).min(MAX_WIDTH) + 2;
-        columns.push(Column { begins, width })?;
-        begins = begins.saturating_add(width);
-    }
-    Ok((columns, begins))
-}
+use tx_cut::{Part, ShownRow};
+use tx_sheet::{places, put_first, put_number, shown};
 
 // The first session of each column.
-fn first_heads(alloc: Global, sheet: &Sheet) -> Result<Vec<usize>, AllocError> {
+fn first_heads(alloc: Global, part: &Part<'_>) -> Result<Vec<usize>, AllocError> {
     let mut heads = Vec::new(alloc);
-    'sessions: for (place, session) in sheet.sessions.iter().enumerate() {
-        if session.column == heads.len() {
-            heads.push(place)?;
+    'sessions: for (place, life) in part.sessions.iter().enumerate() {
+        if let Some(life) = life {
+            if life.is_head {
+                heads.push(place)?;
+            }
         }
     }
     Ok(heads)
@@ -123,69 +35,61 @@ fn put_line_number(out: &mut String, number: u64) -> Result<(), AllocError> {
     out.push_str("  ")
 }
 
-// Where a row begins.
-fn begins(columns: &[Column], column: Option<usize>) -> Option<usize> {
-    Some(columns.get(column?)?.begins)
-}
-
-// Appends what changed, behind all columns or behind an entry that runs into them.
-fn put_changes(
-    out: &mut String,
-    end: usize,
-    total: usize,
-    changes: &str,
-) -> Result<(), AllocError> {
-    if changes.is_empty() {
-        return Ok(());
-    }
-    let between = if end < total { total - end } else { 2 };
-    put_spaces(out, between)?;
-    out.push_str(changes)
-}
-
-// Appends the reason of a refusal, under the entry.
-fn put_reason(out: &mut String, indent: usize, reason: &str) -> Result<(), AllocError> {
-    if reason.is_empty() {
-        return Ok(());
-    }
-    put_spaces(out, indent.saturating_add(6))?;
-    out.push_str("^ ")?;
-    out.push_str(reason)?;
-    out.push('\n')
-}
-
-// Appends the machine's steps, under the entry and its reason.
-fn put_machine(out: &mut String, indent: usize, steps: &[String]) -> Result<(), AllocError> {
-    if steps.is_empty() {
-        return Ok(());
-    }
-    put_spaces(out, indent.saturating_add(6))?;
+// The machine's steps of a row as one text.
+fn machine_words(alloc: Global, steps: &[String]) -> Result<String, AllocError> {
+    let mut words = String::new(alloc);
     let mut before = "* ";
     'steps: for step in steps {
-        out.push_str(before)?;
-        out.push_str(step.as_str())?;
+        words.push_str(before)?;
+        words.push_str(step.as_str())?;
         before = "; ";
     }
+    Ok(words)
+}
+
+// Appends words on a line of their own, unless there are none; what goes on below them stands two
+// places further on.
+fn put_below(
+    out: &mut String,
+    begins: usize,
+    width: Option<usize>,
+    words: &str,
+) -> Result<(), AllocError> {
+    if words.is_empty() {
+        return Ok(());
+    }
+    put_spaces(out, begins)?;
+    put_words(out, Room::behind(begins, width).further(BETWEEN), words)?;
     out.push('\n')
 }
 
 // What stands around the rows.
 #[derive(Clone, Copy)]
 struct Frame<'a> {
-    sheet: &'a Sheet,
-    columns: &'a [Column],
-    total: usize,
+    part: &'a Part<'a>,
+    columns: &'a Columns,
+    /// How many places a line is to have.
+    width: Option<usize>,
 }
 
 impl Frame<'_> {
     // The name of a session that has not ended before this row; else nothing.
     fn name_at(&self, alloc: Global, session: usize, row: usize) -> Result<String, AllocError> {
-        match self.sheet.sessions.get(session) {
-            Some(session) if session.ends.unwrap_or(row) >= row => {
-                shown(alloc, session.name.as_str())
-            }
+        match self.part.sessions.get(session) {
+            Some(Some(life)) if life.ends.unwrap_or(row) >= row => shown(alloc, life.name),
             _ => Ok(String::new(alloc)),
         }
+    }
+
+    // Appends a name at the head of a column: as much of it as has room there.
+    fn put_name(&self, out: &mut String, column: Column, name: &str) -> Result<(), AllocError> {
+        let room = column.width.saturating_sub(BETWEEN);
+        if places(name) <= room {
+            out.push_str(name)?;
+            return put_spaces(out, column.width.saturating_sub(places(name)));
+        }
+        put_first(out, name, room)?;
+        put_spaces(out, BETWEEN)
     }
 
     // Appends the heads of the columns as they are at a row.
@@ -197,10 +101,9 @@ impl Frame<'_> {
         row: usize,
     ) -> Result<(), AllocError> {
         out.push_str("line  ")?;
-        'columns: for (column, session) in self.columns.iter().zip(heads) {
+        'columns: for (column, session) in self.columns.all.iter().zip(heads) {
             let name = self.name_at(alloc, *session, row)?;
-            out.push_str(name.as_str())?;
-            put_spaces(out, column.width.saturating_sub(places(name.as_str())))?;
+            self.put_name(out, *column, name.as_str())?;
         }
         out.push_str("what changed\n")
     }
@@ -211,23 +114,76 @@ impl Frame<'_> {
         alloc: Global,
         out: &mut String,
         heads: &mut [usize],
-        number: usize,
-        row: &Row,
+        place: usize,
+        shown: ShownRow<'_>,
     ) -> Result<(), AllocError> {
-        let Some(place) = row.session else {
+        let Some(session) = shown.row.session else {
             return Ok(());
         };
-        let Some(session) = self.sheet.sessions.get(place) else {
+        let Some(column) = self.part.column_of(shown.row) else {
             return Ok(());
         };
-        let Some(head) = heads.get_mut(session.column) else {
+        let Some(head) = heads.get_mut(column) else {
             return Ok(());
         };
-        if *head == place {
+        if *head == session {
             return Ok(());
         }
-        *head = place;
-        self.put_head(alloc, out, heads, number)
+        *head = session;
+        self.put_head(alloc, out, heads, place)
+    }
+
+    // Whether words stand behind an entry that ends there.
+    fn has_room(&self, end: usize, words: &str) -> bool {
+        let needed = end.saturating_add(BETWEEN).saturating_add(places(words));
+        match self.width {
+            Some(width) => needed <= width,
+            None => true,
+        }
+    }
+
+    // Appends what changed, behind all columns or behind an entry that runs into them; below an
+    // entry that goes on below, and where there is no room for it. The place at which the entry
+    // ends is known where that is one line.
+    fn put_changes(
+        &self,
+        out: &mut String,
+        end: Option<usize>,
+        changes: &str,
+    ) -> Result<(), AllocError> {
+        if changes.is_empty() {
+            return Ok(());
+        }
+        let behind = self.columns.total.saturating_add(MARGIN);
+        match end {
+            Some(end) if end < behind => put_spaces(out, behind.saturating_sub(end))?,
+            Some(end) if self.has_room(end, changes) => {
+                put_spaces(out, BETWEEN)?;
+                return out.push_str(changes);
+            }
+            _ => {
+                out.push('\n')?;
+                put_spaces(out, behind)?;
+            }
+        }
+        put_words(out, Room::behind(behind, self.width), changes)
+    }
+
+    // Appends the words of a step from this place of its line on: where they end, if on that line.
+    fn put_step(
+        &self,
+        out: &mut String,
+        begins: usize,
+        step: &str,
+    ) -> Result<Option<usize>, AllocError> {
+        let room = Room::behind(begins, self.width);
+        let end = begins.saturating_add(places(step));
+        if places(step) <= room.places {
+            out.push_str(step)?;
+            return Ok(Some(end));
+        }
+        put_words(out, room.further(BETWEEN), step)?;
+        Ok(None)
     }
 
     // Appends a row.
@@ -235,41 +191,45 @@ impl Frame<'_> {
         &self,
         alloc: Global,
         out: &mut String,
-        number: u64,
-        row: &Row,
-        entry: &str,
+        shown: ShownRow<'_>,
+        entry: &Entry,
     ) -> Result<(), AllocError> {
-        let indent = begins(self.columns, self.sheet.column_of(row)).unwrap_or(0);
-        put_line_number(out, number)?;
-        put_spaces(out, indent)?;
-        out.push_str(entry)?;
-        let end = indent.saturating_add(places(entry));
-        let changes = changed_words(alloc, self.sheet.keys.as_slice(), row.changes.as_slice())?;
-        put_changes(out, end, self.total, changes.as_str())?;
+        let row = shown.row;
+        let begins = self
+            .columns
+            .begins(self.part.column_of(row))
+            .saturating_add(MARGIN);
+        put_line_number(out, shown.number)?;
+        put_spaces(out, begins.saturating_sub(MARGIN))?;
+        let end = self.put_step(out, begins, entry.step.as_str())?;
+        self.put_changes(out, end, entry.changes.as_str())?;
         out.push('\n')?;
-        put_reason(out, indent, row.reason.as_str())?;
-        put_machine(out, indent, row.machine.as_slice())
+        if row.is_refused() {
+            let reason = format!(in alloc; "^ {}", row.reason)?;
+            put_below(out, begins, self.width, reason.as_str())?;
+        }
+        let steps = machine_words(alloc, row.machine.as_slice())?;
+        put_below(out, begins, self.width, steps.as_str())
     }
 }
 
-/// The text of a sheet: a column a session, a line a step, and beside it what changed of keys.
-/// Where a session takes a column that was another's, the heads stand there once more.
-pub fn text_of(alloc: Global, sheet: &Sheet) -> Result<String, AllocError> {
+/// The text of a part of a sheet: a column a session, a line a step, and beside it what changed of
+/// keys. Where a session takes a column that was another's, the heads stand there once more. Where
+/// lines are to have at most so many places, what is longer goes on below, but for a single word.
+pub fn text_of(alloc: Global, part: &Part<'_>, width: Option<usize>) -> Result<String, AllocError> {
     let mut out = String::new(alloc);
-    let entries = entries_of(alloc, sheet.rows.as_slice())?;
-    let (columns, total) = columns_of(alloc, sheet, entries.as_slice())?;
+    let entries = entries_of(alloc, part)?;
+    let columns = Columns::of(alloc, part, entries.as_slice(), width)?;
     let frame = Frame {
-        sheet,
-        columns: columns.as_slice(),
-        total,
+        part,
+        columns: &columns,
+        width,
     };
-    let mut heads = first_heads(alloc, sheet)?;
+    let mut heads = first_heads(alloc, part)?;
     frame.put_head(alloc, &mut out, heads.as_slice(), 0)?;
-    let mut number = 0u64;
-    'rows: for (place, (row, entry)) in sheet.rows.iter().zip(entries.as_slice()).enumerate() {
-        number = number.saturating_add(1);
-        frame.put_new_head(alloc, &mut out, heads.as_mut_slice(), place, row)?;
-        frame.put_row(alloc, &mut out, number, row, entry.as_str())?;
+    'rows: for (place, (shown, entry)) in part.rows.iter().zip(entries.as_slice()).enumerate() {
+        frame.put_new_head(alloc, &mut out, heads.as_mut_slice(), place, *shown)?;
+        frame.put_row(alloc, &mut out, *shown, entry)?;
     }
     Ok(out)
 }

@@ -181,4 +181,17 @@ impl<J: JournalId, F: Families> Region<J, F> {
     {
         self.answer(request)
     }
+
+    /// The same in place: answers the request of a reply, which then has the answer.
+    pub fn take_in(&mut self, place: &mut Reply<J>)
+        requires holds { Holds J.bounds self.old.seat place.old.request.body }
+        ensures request { place.new.request ≡ place.old.request }
+        ensures same { (self.new.seat ≡ self.old.seat) × (self.new.ticks ≡ self.old.ticks) }
+        ensures told { self.new.events ≡ place.new.events }
+        ensures answered { IfSome place.new.answer (Answered J.bounds self.old.seat self.old.events place.new) }
+        ensures always { TakesNoMemory place.old.request.body → IsSome place.new.answer }
+        ensures refused { IfNone place.new.answer (HasSeen J.bounds self.old.seat self.old.events self.new.events) }
+    {
+        self.answer_in(place);
+    }
 }

@@ -17,7 +17,7 @@ mod plans;
 use crate::copy::Loaded;
 use crate::records::Records;
 use crate::routes::holds;
-use events::reply_done;
+use events::note_done;
 use marks::load_mark;
 use std::alloc::Global;
 use std::marker::Model;
@@ -122,8 +122,22 @@ impl<J: JournalId, F: Families> Region<J, F> {
         self.seat.learn(told);
     }
 
-    // Knows what a request's sender had seen, then the last number that was drawn, and then the
-    // greatest timestamp that was read.
+    // Knows what was heard, then the last number that was drawn, and then the greatest timestamp
+    // that was read, where the answer to a request looks at that.
+    #[inline(always)]
+    fn load_after(&mut self, heard: Told<J>, body: &Body) -> Loaded
+        ensures same { (self.new.seat ≡ self.old.seat) × (self.new.ticks ≡ self.old.ticks) }
+        ensures seen { HasSeen J.bounds self.old.seat self.old.events self.new.events }
+        ensures loads { Loads J.bounds self.old.seat self.old.events heard body.now result.last result.mark
+            self.new.events }
+    {
+        self.seat.learn(heard);
+        let last = self.seat.last();
+        let mark = load_mark(&mut self.seat, body);
+        Loaded { last, mark }
+    }
+
+    // The same, after what a request's sender had seen.
     fn load(&mut self, request: &mut Request<J>) -> Loaded
         ensures request { request.new ≡ request.old }
         ensures same { (self.new.seat ≡ self.old.seat) × (self.new.ticks ≡ self.old.ticks) }
@@ -132,16 +146,52 @@ impl<J: JournalId, F: Families> Region<J, F> {
             result.mark self.new.events }
     {
         let heard = request.tell(&self.seat);
-        self.seat.learn(heard);
-        let last = self.seat.last();
-        let mark = load_mark(&mut self.seat, request.body());
-        Loaded { last, mark }
+        self.load_after(heard, request.body())
     }
 
-    // Answers a request that it holds, and records that it did, by one event; where memory is
-    // refused it does neither. RaiseSafe takes none.
-    #[inline(always)]
-    pub(crate) fn answer(&mut self, mut request: Request<J>) -> Reply<J>
+    // The same of the request of a reply.
+    fn load_in(&mut self, place: &mut Reply<J>) -> Loaded
+        ensures place { place.new ≡ place.old }
+        ensures same { (self.new.seat ≡ self.old.seat) × (self.new.ticks ≡ self.old.ticks) }
+        ensures seen { HasSeen J.bounds self.old.seat self.old.events self.new.events }
+        ensures loads { Loads J.bounds self.old.seat self.old.events place.new.request.by place.new.request.body
+            result.last result.mark self.new.events }
+    {
+        let heard = place.tell_asked(&self.seat);
+        self.load_after(heard, place.body())
+    }
+
+    // Answers the request of a reply, which it holds, in its place, and records that it did, by one
+    // event; where memory is refused it does neither. RaiseSafe takes none.
+    pub(crate) fn answer_in(&mut self, place: &mut Reply<J>)
+        requires holds { Holds J.bounds self.old.seat place.old.request.body }
+        ensures request { place.new.request ≡ place.old.request }
+        ensures same { (self.new.seat ≡ self.old.seat) × (self.new.ticks ≡ self.old.ticks) }
+        ensures told { self.new.events ≡ place.new.events }
+        ensures answered { IfSome place.new.answer (Answered J.bounds self.old.seat self.old.events place.new) }
+        ensures always { TakesNoMemory place.old.request.body → IsSome place.new.answer }
+        ensures refused { IfNone place.new.answer (HasSeen J.bounds self.old.seat self.old.events self.new.events) }
+    {
+        let loaded = self.load_in(place);
+        let request = place.request();
+        match self
+            .records
+            .answer(loaded.last, loaded.mark, request.body())
+        {
+            Err(_) => {
+                let told = self.seat.tell();
+                place.fill(None, told);
+            }
+            Ok(done) => {
+                let mut answer = None;
+                let told = note_done(&mut self.seat, request, loaded.last, done, &mut answer);
+                place.fill(answer, told);
+            }
+        }
+    }
+
+    // The same of a request that stands in no reply yet.
+    pub(crate) fn answer(&mut self, request: Request<J>) -> Reply<J>
         requires holds { Holds J.bounds self.old.seat request.body }
         ensures request { result.request ≡ request }
         ensures same { (self.new.seat ≡ self.old.seat) × (self.new.ticks ≡ self.old.ticks) }
@@ -150,17 +200,11 @@ impl<J: JournalId, F: Families> Region<J, F> {
         ensures always { TakesNoMemory request.body → IsSome result.answer }
         ensures refused { IfNone result.answer (HasSeen J.bounds self.old.seat self.old.events self.new.events) }
     {
-        let loaded = self.load(&mut request);
-        match self
-            .records
-            .answer(loaded.last, loaded.mark, request.body())
-        {
-            Err(_) => {
-                let told = self.seat.tell();
-                Reply::new(request, None, told)
-            }
-            Ok(done) => reply_done(&mut self.seat, request, loaded.last, done),
-        }
+        let told = self.tell();
+        told.show();
+        let mut reply = Reply::new(request, None, told);
+        self.answer_in(&mut reply);
+        reply
     }
 }
 

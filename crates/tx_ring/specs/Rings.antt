@@ -1,6 +1,10 @@
 -- The text of a picture of a ring.
-use Rattle.std.specs.Prelude.{ℕ, ◌+◌, ◌-◌, ◌*◌, ◌^◌, min, max, Bool, cond, List, ◌++◌, length, codes, decimal}
-use Rattle.tx_ring.specs.declared.ring.TheConstants.{LOOKS, NOTE, BOX}
+use Rattle.std.specs.Prelude.{ℕ, ◌+◌, ◌-◌, ◌*◌, ◌^◌, min, max, List, ◌++◌, length, codes, decimal}
+use Rattle.tx_ring.specs.declared.ring.TheConstants.{FONT, LOOKS, BOX}
+use Rattle.tx_ring.specs.declared.ring.Subject.{Subject}
+use Rattle.tx_ring.specs.declared.ring.Subject.TheVariants.{Cycle, Read}
+use Rattle.tx_ring.specs.declared.ring.Tie.{Tie}
+use Rattle.tx_ring.specs.declared.ring.Tie.TheVariants.{Arrow, Line, Nothing}
 use Rattle.tx_ring.specs.Markup.{marked}
 
 -- as many, up to 2^32
@@ -27,11 +31,26 @@ reach_of label sense = max (8 * few (length label)) (6 * few (length sense))
 abbrev pub size_text : ℕ → List ℕ → ℕ → List ℕ
 size_text reach between n = decimal (width_of reach) ++ (between ++ decimal (height_of n))
 
--- the head: how large the picture is, how it looks, and its title
-abbrev pub head_text : List ℕ → ℕ → ℕ → List ℕ
-head_text title n reach = codes "<svg xmlns=\"http://www.w3.org/2000/svg\" viewBox=\"0 0 "
+-- what a picture is called
+abbrev pub what_text : Subject → List ℕ
+what_text Cycle = codes "A cycle of transactions"
+what_text Read = codes "A read that cannot be"
+
+-- what is said below its title
+abbrev pub note_text : Subject → List ℕ
+note_text Cycle = codes "Each has to come before the next one, and the last before the first"
+note_text Read = codes "No order of the transactions explains what was read"
+
+-- what a picture is called, how it looks, its title, and what is said below that
+abbrev pub looks_text : Subject → List ℕ → List ℕ
+looks_text subject title = FONT.now ++ (what_text subject ++ (LOOKS.now ++ (title
+    ++ (codes "</text>\n<text class=\"small\" x=\"20\" y=\"48\">" ++ (note_text subject ++ codes "</text>\n")))))
+
+-- the head: how large the picture is, and what stands above its boxes
+abbrev pub head_text : Subject → List ℕ → ℕ → ℕ → List ℕ
+head_text subject title n reach = codes "<svg xmlns=\"http://www.w3.org/2000/svg\" viewBox=\"0 0 "
     ++ (size_text reach (codes " ") n ++ (codes "\" width=\""
-    ++ (size_text reach (codes "\" height=\"") n ++ (LOOKS.now ++ (title ++ NOTE.now)))))
+    ++ (size_text reach (codes "\" height=\"") n ++ looks_text subject title)))
 
 -- the box at a place with its name
 abbrev pub box_text : ℕ → List ℕ → List ℕ → List ℕ
@@ -43,13 +62,23 @@ abbrev pub words_text : List ℕ → List ℕ → List ℕ
 words_text label sense = codes "</text>\n<text class=\"kind\" x=\"104\" y=\"62\">" ++ (marked label
     ++ (codes "</text>\n<text class=\"small\" x=\"104\" y=\"77\">" ++ (marked sense ++ codes "</text>\n")))
 
--- the arrow to the next box, where there is one
-abbrev pub arrow_text : Bool → List ℕ
-arrow_text is_last = cond is_last (codes "</g>\n") (codes "<path d=\"M88 40v58m-5 -8l5 8l5 -8\"/></g>\n")
+-- what leads to the next box
+abbrev pub tie_text : Tie → List ℕ
+tie_text Arrow = codes "<path d=\"M88 40v58m-5 -8l5 8l5 -8\"/></g>\n"
+tie_text Line = codes "<path d=\"M88 40v58\"/></g>\n"
+tie_text Nothing = codes "</g>\n"
 
-abbrev pub step_text : ℕ → Bool → List ℕ → List ℕ → List ℕ → List ℕ → List ℕ
-step_text place is_last kind name label sense =
-    box_text place kind name ++ (words_text label sense ++ arrow_text is_last)
+abbrev pub step_text : ℕ → Tie → List ℕ → List ℕ → List ℕ → List ℕ → List ℕ
+step_text place tie kind name label sense =
+    box_text place kind name ++ (words_text label sense ++ tie_text tie)
+
+-- the box at a place with its name, from which nothing leads on
+abbrev pub last_text : ℕ → List ℕ → List ℕ
+last_text place name = box_text place (codes "last") name ++ codes "</text>\n</g>\n"
+
+-- the end of a picture that is no ring
+abbrev pub close_text : List ℕ
+close_text = codes "</svg>\n"
 
 -- the arrow from the last box to the first
 abbrev pub end_text : ℕ → List ℕ → List ℕ

@@ -1,6 +1,6 @@
-//! The parts of a picture of a ring, from its head to its end.
+//! The parts of a picture of boxes, from its head to its end.
 ghost use Rattle.std.specs.Prelude.{◌≡◌, ◌-◌, ◌++◌, decimal, OnOk};
-ghost use Rattle.tx_ring.specs.Rings.{few, top_of, height_of, width_of, reach_of, size_text, head_text, box_text, arrow_text, words_text, step_text, end_text};
+ghost use Rattle.tx_ring.specs.Rings.{few, top_of, height_of, width_of, reach_of, size_text, what_text, note_text, looks_text, head_text, box_text, tie_text, words_text, step_text, last_text, close_text, end_text};
 
 use crate::markup::put_text;
 use std::alloc::AllocError;
@@ -62,14 +62,44 @@ fn put_size(out: &mut Vec<u8>, reach: usize, between: &str, count: usize) -> Res
     put_digits(out, height_of(count))
 }
 
+/// What a picture shows.
+#[derive(Clone, Copy, Debug, PartialEq, Eq)]
+pub enum Subject {
+    /// Transactions, each of which has to come before the next one.
+    Cycle,
+    /// A read, and who is told of with it.
+    Read,
+}
+
+// What a picture is called.
+fn what_of(subject: Subject) -> &'static str
+    ensures { result.now ≡ what_text subject }
+{
+    match subject {
+        Subject::Cycle => "A cycle of transactions",
+        Subject::Read => "A read that cannot be",
+    }
+}
+
+// What is said below the title.
+fn note_of(subject: Subject) -> &'static str
+    ensures { result.now ≡ note_text subject }
+{
+    match subject {
+        Subject::Cycle => "Each has to come before the next one, and the last before the first",
+        Subject::Read => "No order of the transactions explains what was read",
+    }
+}
+
 /// Appends how a picture of so many boxes begins, whose words reach so far.
 pub fn put_head(
     out: &mut Vec<u8>,
+    subject: Subject,
     title: &str,
     count: usize,
     reach: usize,
 ) -> Result<(), AllocError>
-    ensures { OnOk result (out.new.items ≡ out.old.items ++ head_text title.now count reach) }
+    ensures { OnOk result (out.new.items ≡ out.old.items ++ head_text subject title.now count reach) }
 {
     put(
         out,
@@ -78,14 +108,27 @@ pub fn put_head(
     put_size(out, reach, " ", count)?;
     put(out, "\" width=\"")?;
     put_size(out, reach, "\" height=\"", count)?;
-    put(out, LOOKS)?;
-    put(out, title)?;
-    put(out, NOTE)
+    put_looks(out, subject, title)
 }
 
+// Appends what a picture is called, how it looks, its title, and what is said below that.
+fn put_looks(out: &mut Vec<u8>, subject: Subject, title: &str) -> Result<(), AllocError>
+    ensures { OnOk result (out.new.items ≡ out.old.items ++ looks_text subject title.now) }
+{
+    put(out, FONT)?;
+    put(out, what_of(subject))?;
+    put(out, LOOKS)?;
+    put(out, title)?;
+    put(out, "</text>\n<text class=\"small\" x=\"20\" y=\"48\">")?;
+    put(out, note_of(subject))?;
+    put(out, "</text>\n")
+}
+
+// The font of its words.
+const FONT: &str = "\" font-family=\"DejaVu Sans,Helvetica,Arial,sans-serif\">\n<title>";
+
 // How each class looks: sizes of words, colours.
-const LOOKS: &str = "\" font-family=\"DejaVu Sans,Helvetica,Arial,sans-serif\">\n\
-    <title>A cycle of transactions</title>\n\
+const LOOKS: &str = "</title>\n\
     <style>text{fill:#222;font-size:12px;font-weight:bold}\
     .title{font-size:15px}.small{fill:#666;font-size:10px;font-weight:normal}\
     .middle{text-anchor:middle}.box{fill:#f4f6f9;stroke:#8a94a3}\
@@ -94,10 +137,6 @@ const LOOKS: &str = "\" font-family=\"DejaVu Sans,Helvetica,Arial,sans-serif\">\
     .ww .kind{fill:#b00020}.wr .kind{fill:#2e7d32}.rw .kind{fill:#33598f}</style>\n\
     <rect width=\"100%\" height=\"100%\" fill=\"#fff\"/>\n\
     <text class=\"title\" x=\"20\" y=\"30\">";
-
-// What stands behind the title.
-const NOTE: &str = "</text>\n<text class=\"small\" x=\"20\" y=\"48\">\
-    Each has to come before the next one, and the last before the first</text>\n";
 
 // Appends how far down the box at a place stands.
 fn put_top(out: &mut Vec<u8>, place: usize) -> Result<(), AllocError>
@@ -141,33 +180,58 @@ fn put_words(out: &mut Vec<u8>, label: &[u8], sense: &[u8]) -> Result<(), AllocE
     out.extend_from_slice(b"</text>\n")
 }
 
-// Appends the arrow to the next box, where there is one, and the end of a step.
-fn put_arrow(out: &mut Vec<u8>, is_last: bool) -> Result<(), AllocError>
-    ensures { OnOk result (out.new.items ≡ out.old.items ++ arrow_text is_last) }
-{
-    if is_last {
-        return out.extend_from_slice(b"</g>\n");
-    }
-    out.extend_from_slice(b"<path d=\"M88 40v58m-5 -8l5 8l5 -8\"/></g>\n")
+/// What leads from a box to the next one.
+#[derive(Clone, Copy, Debug, PartialEq, Eq)]
+pub enum Tie {
+    Arrow,
+    /// Both are told of alike.
+    Line,
+    Nothing,
 }
 
-/// Appends the box at a place with its name, and the arrow to the next one, which is of a kind,
-/// with its words. The arrow of the last one is drawn at the end.
+// Appends what leads to the next box, and the end of a step.
+fn put_tie(out: &mut Vec<u8>, tie: Tie) -> Result<(), AllocError>
+    ensures { OnOk result (out.new.items ≡ out.old.items ++ tie_text tie) }
+{
+    match tie {
+        Tie::Arrow => { out.extend_from_slice(b"<path d=\"M88 40v58m-5 -8l5 8l5 -8\"/></g>\n") }
+        Tie::Line => out.extend_from_slice(b"<path d=\"M88 40v58\"/></g>\n"),
+        Tie::Nothing => out.extend_from_slice(b"</g>\n"),
+    }
+}
+
+/// Appends the box at a place with its name, and what leads to the next one, which is of a kind,
+/// with its words. The arrow of the last one of a ring is drawn at the end.
 pub fn put_step(
     out: &mut Vec<u8>,
     place: usize,
-    is_last: bool,
+    tie: Tie,
     kind: &str,
     name: &[u8],
     label: &[u8],
     sense: &[u8],
 ) -> Result<(), AllocError>
     ensures { OnOk result (out.new.items ≡ out.old.items
-        ++ step_text place is_last kind.now name.now label.now sense.now) }
+        ++ step_text place tie kind.now name.now label.now sense.now) }
 {
     put_box(out, place, kind, name)?;
     put_words(out, label, sense)?;
-    put_arrow(out, is_last)
+    put_tie(out, tie)
+}
+
+/// Appends the box at a place with its name, from which nothing leads on.
+pub fn put_last(out: &mut Vec<u8>, place: usize, name: &[u8]) -> Result<(), AllocError>
+    ensures { OnOk result (out.new.items ≡ out.old.items ++ last_text place name.now) }
+{
+    put_box(out, place, "last", name)?;
+    out.extend_from_slice(b"</text>\n</g>\n")
+}
+
+/// Appends the end of a picture that is no ring.
+pub fn put_close(out: &mut Vec<u8>) -> Result<(), AllocError>
+    ensures { OnOk result (out.new.items ≡ out.old.items ++ close_text) }
+{
+    out.extend_from_slice(b"</svg>\n")
 }
 
 /// Appends the arrow from the last of so many boxes to the first, which is of a kind, and the end.

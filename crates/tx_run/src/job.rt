@@ -313,7 +313,7 @@ impl<J: JournalId, L: Source, F: Families + Drop, R: Wait + Drop> ScriptJob<J, L
             faulted: self.faulted,
             stage,
             collected: self.collector.dropped(),
-            refusals: self.context.refusals(),
+            requests: self.context.refusals(),
             last,
         }
     }

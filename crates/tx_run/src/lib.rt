@@ -6,6 +6,7 @@
 mod job;
 mod output;
 mod play;
+mod refusals;
 mod run;
 mod sessions;
 mod settings;

@@ -23,8 +23,8 @@ pub(crate) struct JobOutput<J: JournalId, L: Source> {
     pub stage: Option<(u64, SessionStage)>,
     /// How many write records it collected.
     pub collected: u64,
-    /// What stood in its way.
-    pub refusals: Refusals,
+    /// What stood in the way of its requests.
+    pub requests: Refusals,
     /// What its seat knew at last.
     pub last: Option<Told<J>>,
 }
@@ -52,13 +52,13 @@ pub(crate) fn count_collected<J: JournalId, L: Source>(outputs: &[JobOutput<J, L
     collected
 }
 
-/// What stood in the way of all sessions.
-pub(crate) fn count_refusals<J: JournalId, L: Source>(outputs: &[JobOutput<J, L>]) -> Refusals {
-    let mut refusals = Refusals::NONE;
+/// What stood in the way of the requests of all sessions.
+pub(crate) fn count_requests<J: JournalId, L: Source>(outputs: &[JobOutput<J, L>]) -> Refusals {
+    let mut requests = Refusals::NONE;
     for output in outputs {
-        refusals = refusals.and(output.refusals);
+        requests = requests.and(output.requests);
     }
-    refusals
+    requests
 }
 
 // Adds how far a session was, where that is told, unless there is no memory for it.

@@ -5,6 +5,7 @@ ghost use Rattle.tx_workload.specs.Answers.{IsReply, has_fault, numbers_of};
 ghost use Rattle.tx_workload.specs.Outcomes.{TellsOutcomes};
 ghost use Rattle.tx_run.specs.Jobs.{AreFalling, AreFrom, AreGathered, ComesOf, IsOpened, IsSubsequence, stages_in};
 ghost use Rattle.tx_run.specs.Played.{fresh};
+ghost use Rattle.tx_run.specs.Refusals.{refusals_in};
 ghost use Rattle.tx_run.specs.Sums.{SumsBehind};
 ghost use Rattle.tx_workload.specs.LineNumbers.{numbers_in};
 ghost use Rattle.tx_workload.specs.ScriptLines.{opening_of};
@@ -14,7 +15,8 @@ ghost use Rattle.tx_workload.specs.Tells.{AreOwn, OpensWith, TellsLine};
 ghost use Rattle.tx_workload.specs.Totals.{TellsTotal, seen_in};
 ghost use Rattle.tx_core.specs.Histories.{History, Begins};
 
-use crate::output::{JobOutput, count_collected, count_refusals, stages_of};
+use crate::output::{JobOutput, count_collected, count_requests, stages_of};
+use crate::refusals::count_lines;
 use crate::sessions::{gather, two_seats, work};
 use crate::settings::Settings;
 use std::alloc::Global;
@@ -93,8 +95,10 @@ pub struct RunResult {
     pub stages: Vec<(u64, SessionStage)>,
     /// How many write records were collected meanwhile, by collections that were not refused.
     pub collected: u64,
-    /// What stood in the way of its sessions' requests.
+    /// How many lines are told each refusal, and how many what became of a lock.
     pub refusals: Refusals,
+    /// What stood in the way of its sessions' requests, those of transfers too, which may go on.
+    pub requests: Refusals,
     /// The sum of all balances at the end.
     pub total: u128,
     /// What all sessions had seen.
@@ -189,21 +193,24 @@ fn close<J: JournalId, L: Source, F: Families + Drop, R: Wait + Drop>(
         AreGathered J.bounds L.text (numbers_of replies) played.seen.events played.replies outputs.items
         × (played.faulted ≡ list_any (λ o. o.faulted) outputs.items)) }
     ensures stages { IfOk result (λ played. IsSubsequence played.stages.items (stages_in outputs.items)) }
+    ensures refusals { IfOk result (λ played. played.refusals ≡ refusals_in played.replies) }
     ensures total { IfOk result (λ played. TellsTotal played.seen played.replies played.total) }
     ensures sums { IfOk result (λ played. SumsBehind L.text played.seen played.replies played.total) }
 {
     let collected = count_collected(outputs.as_slice());
-    let refusals = count_refusals(outputs.as_slice());
+    let requests = count_requests(outputs.as_slice());
     let stages = stages_of(context.alloc, outputs.as_slice());
     let faulted = gather(outputs, &mut seat, &mut replies)?;
     let (total, mut seat) = sum_up::<J, L, F, R>(seat, context, &replies)?;
     let told = seat.tell();
+    let refusals = count_lines(&replies);
     Ok(RunResult {
         replies,
         faulted,
         stages,
         collected,
         refusals,
+        requests,
         total,
         seen: told.unnamed(seat),
     })
@@ -240,6 +247,7 @@ where
         ComesOf J.bounds L.text (opening_of J.bounds ++ map (λ seed. seed.number) script.seeds.items)
         (numbers_in script.sessions.items) played.seen.events played.replies played.stages.items) }
     ensures faulted { IfOk result (λ played. played.faulted ≡ has_fault played.replies) }
+    ensures refusals { IfOk result (λ played. played.refusals ≡ refusals_in played.replies) }
     ensures total { IfOk result (λ played. TellsTotal played.seen played.replies played.total) }
     ensures sums { IfOk result (λ played. SumsBehind L.text played.seen played.replies played.total) }
 {
@@ -293,6 +301,7 @@ where
         (opening_of script.bounds.items ++ map (λ seed. seed.number) script.seeds.items)
         (numbers_in script.sessions.items) played.seen.events played.replies played.stages.items) }
     ensures faulted { IfOk result (λ played. played.faulted ≡ has_fault played.replies) }
+    ensures refusals { IfOk result (λ played. played.refusals ≡ refusals_in played.replies) }
     ensures total { IfOk result (λ played. TellsTotal played.seen played.replies played.total) }
     ensures sums { IfOk result (λ played. SumsBehind L.text played.seen played.replies played.total) }
 {

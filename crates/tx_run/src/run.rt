@@ -7,6 +7,7 @@ ghost use Rattle.tx_workload.specs.Tells.{AllTell};
 ghost use Rattle.tx_workload.specs.Totals.{TellsTotal};
 ghost use Rattle.tx_workload.specs.Answers.{has_fault};
 ghost use Rattle.tx_run.specs.Jobs.{ComesOfText};
+ghost use Rattle.tx_run.specs.Refusals.{refusals_in};
 ghost use Rattle.tx_run.specs.Sums.{SumsBehind};
 ghost use Rattle.tx_workload.specs.Texts.{IsTextFrom, WritesText, WritesPart};
 ghost use Rattle.tx_run.specs.Texts.{IsRunText, end_of};
@@ -49,6 +50,7 @@ where
     ensures comes { IfOk result (λ r. IfSome r.1
         (λ played. ComesOfText L.text played.seen.bounds played.seen.events played.replies played.stages.items)) }
     ensures faulted { IfOk result (λ r. IfSome r.1 (λ played. played.faulted ≡ has_fault played.replies)) }
+    ensures refusals { IfOk result (λ r. IfSome r.1 (λ played. played.refusals ≡ refusals_in played.replies)) }
     ensures total { IfOk result (λ r. IfSome r.1 (λ played. TellsTotal played.seen played.replies played.total)) }
     ensures sums { IfOk result
         (λ r. IfSome r.1 (λ played. SumsBehind L.text played.seen played.replies played.total)) }
@@ -118,6 +120,7 @@ where
         (λ r. IfSome r.1 (λ played. ComesOfText (B.remaining reader.old) played.seen.bounds played.seen.events
         played.replies played.stages.items)) }
     ensures faulted { IfOk result (λ r. IfSome r.1 (λ played. played.faulted ≡ has_fault played.replies)) }
+    ensures refusals { IfOk result (λ r. IfSome r.1 (λ played. played.refusals ≡ refusals_in played.replies)) }
     ensures total { IfOk result (λ r. IfSome r.1 (λ played. TellsTotal played.seen played.replies played.total)) }
     ensures sums { IfOk result
         (λ r. IfSome r.1 (λ played. SumsBehind (B.remaining reader.old) played.seen played.replies played.total)) }

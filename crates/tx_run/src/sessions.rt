@@ -130,7 +130,7 @@ fn join<J: JournalId, L: Source>(
         faulted,
         stage: _,
         collected: _,
-        refusals: _,
+        requests: _,
         last,
     } = output;
     learn_last(seat, last);

@@ -40,7 +40,7 @@ impl Solver<'_> {
             return true;
         }
         let node = self.web.chain_node(one.chain);
-        one.read && self.net.place(node) > self.net.place(commit_of(other.first))
+        one.read && self.net.place(node) > self.net.place(self.web.writer_node(other.first))
     }
 
     // Where a chain ends in the order.
@@ -76,7 +76,7 @@ impl Solver<'_> {
             return Ok(());
         };
         let at = self.net.place(start_of(chain.first));
-        let commit = self.net.place(commit_of(chain.first));
+        let commit = self.net.place(self.web.writer_node(chain.first));
         if let Some(last) = row.last {
             if self.overlap(last, place) {
                 self.add_pair(choices, at, last, place)?;

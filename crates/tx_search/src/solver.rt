@@ -149,7 +149,8 @@ impl<'a> Solver<'a> {
             return Ok(None);
         }
         let node = self.web.chain_node(one.chain);
-        self.add_line(alloc, node, commit_of(other.first), literal, true)
+        let writer = self.web.writer_node(other.first);
+        self.add_line(alloc, node, writer, literal, true)
     }
 
     /// Says a literal, and adds its edges, or finds the cycle that one closes.

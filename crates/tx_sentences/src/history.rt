@@ -3,6 +3,7 @@ use crate::show::shown_value;
 use serde_json::Value;
 use std::alloc::{AllocError, Global};
 use tx_hints::meant;
+use tx_types::limits::MAX_VALUE_BYTES;
 
 // Whether a value is a name: a string, or a whole number.
 fn is_name(value: &Value) -> bool {
@@ -12,11 +13,20 @@ fn is_name(value: &Value) -> bool {
     }
 }
 
+// Whether a value is one of a key: a string of at most 65,536 bytes, a whole number of 64 bits, or
+// true or false.
+fn is_scalar(value: &Value) -> bool {
+    match value.as_str() {
+        Some(text) => text.len() <= MAX_VALUE_BYTES,
+        None => value.as_u64().is_some() || value.as_i64().is_some() || value.is_boolean(),
+    }
+}
+
 // Whether a value is what a read may find.
 fn is_read(value: &Value) -> bool {
     match value.as_array() {
-        Some(values) => values.iter().all(|value| is_name(value)),
-        None => value.is_null() || is_name(value),
+        Some(values) => values.iter().all(|value| is_scalar(value)),
+        None => value.is_null() || is_scalar(value),
     }
 }
 
@@ -27,7 +37,7 @@ fn is_op(value: &Value) -> bool {
     };
     match members.as_slice() {
         [word, key, found] => match word.as_str() {
-            Some("append" | "w") => is_name(key) && is_name(found),
+            Some("append" | "w") => is_name(key) && is_scalar(found),
             Some("r") => is_name(key) && is_read(found),
             _ => false,
         },
@@ -46,6 +56,31 @@ fn word_of(op: &Value) -> &str {
     }
 }
 
+// Whether an operation has a string that is too long for a value.
+fn is_long(op: &Value) -> bool {
+    let Some(members) = op.as_array() else {
+        return false;
+    };
+    match members.as_slice() {
+        [_, _, found] => match found.as_str() {
+            Some(text) => text.len() > MAX_VALUE_BYTES,
+            None => false,
+        },
+        _ => false,
+    }
+}
+
+// What is to be done about what is no operation.
+fn advice(op: &Value) -> &'static str {
+    if word_of(op) == "scan" {
+        ": bench/scans writes a scan as the reads that it is"
+    } else if is_long(op) {
+        ": a value has at most 65536 bytes, of a longer one write down a digest"
+    } else {
+        ""
+    }
+}
+
 // Why a transaction's operations are none.
 fn wrong_ops(alloc: Global, value: &Value) -> Result<Option<String>, AllocError> {
     let Some(ops) = value.get("ops").and_then(Value::as_array) else {
@@ -55,9 +90,10 @@ fn wrong_ops(alloc: Global, value: &Value) -> Result<Option<String>, AllocError>
         None => Ok(None),
         Some(op) => {
             let meant = meant(alloc, word_of(op), &["append"])?;
+            let advice = advice(op);
             let op = shown_value(alloc, op)?;
             Ok(Some(format!(in alloc;
-                "{op} is no operation ([\"append\",key,value], [\"w\",key,value], [\"r\",key,values]){meant}"
+                "{op} is no operation ([\"append\",key,value], [\"w\",key,value], [\"r\",key,values]){meant}{advice}"
             )?))
         }
     }

@@ -6,7 +6,7 @@ use crate::line::{Member, members_in};
 use crate::member::{is_of, meant_for, rule_of};
 use crate::show::shown;
 use crate::state::{too_many, wrong_name, wrong_state};
-use serde_json::Value;
+use serde_json::{Error, Value};
 use std::alloc::{AllocError, Global};
 use tx_hints::{escaped, meant, wrong_json};
 use tx_streams::NotedFaults;
@@ -292,6 +292,21 @@ fn wrong_value(
     Ok(Some(format!(in alloc; "the line is no array{hint}")?))
 }
 
+// Why a line is no JSON value, which the parser refuses so; of a script's line that begins with a
+// colon, also where such words are answered.
+fn no_json(
+    alloc: Global,
+    kind: InputKind,
+    line: &str,
+    error: &Error,
+) -> Result<String, AllocError> {
+    let mut why = wrong_json(alloc, line.as_bytes(), error)?;
+    if kind == InputKind::Script && line.trim().starts_with(':') {
+        why.push_str("; words with a colon are for a terminal")?;
+    }
+    Ok(why)
+}
+
 /// Why a line is a fault, where that can be said of the line: the member, and the rule that it
 /// breaks; or `state`, what is so of its session, where that is known.
 pub fn why(
@@ -313,7 +328,7 @@ pub fn why(
             _ => wrong_value(alloc, kind, fault, text, &value, state),
         },
         Err(error) if error.is_memory() => Err(AllocError),
-        Err(error) => Ok(Some(wrong_json(alloc, line, &error)?)),
+        Err(error) => Ok(Some(no_json(alloc, kind, text, &error)?)),
     }
 }
 

@@ -3,7 +3,9 @@
 //! script's lines and of the film of their play, and of nothing else.
 #![tactic(auto)]
 
+mod arrows;
 mod change;
+mod changes;
 mod machine;
 mod reads;
 mod reason;
@@ -12,7 +14,9 @@ mod row;
 mod seen;
 mod sessions;
 mod sheet;
+mod signs;
 mod step;
+mod values;
 mod walk;
 mod words;
 

@@ -1,4 +1,6 @@
 //! The machine's steps in words.
+ghost use Rattle.std.specs.Prelude.{◌≡◌, length, IfOk};
+
 use crate::words::{put_bytes, put_stamp};
 use std::alloc::{AllocError, Global};
 use tx_machine::{ScanRead, Step};
@@ -102,7 +104,9 @@ fn put_step(out: &mut String, step: &Step) -> Result<(), AllocError> {
 }
 
 /// The machine's steps in words.
-pub(crate) fn words_of(alloc: Global, steps: &[Step]) -> Result<Vec<String>, AllocError> {
+pub(crate) fn words_of(alloc: Global, steps: &[Step]) -> Result<Vec<String>, AllocError>
+    ensures { IfOk result (λ all. length all.items ≡ length steps.now) }
+{
     let mut all = Vec::new(alloc);
     'steps: for step in steps {
         let mut words = String::new(alloc);

@@ -1,4 +1,7 @@
 //! What stands on a key.
+ghost use Rattle.std.specs.Prelude.{◌≡◌, map, IfOk, option_map};
+ghost use Rattle.tx_sheet.specs.Seen.{kind_of, lock_of, record_of, lock_in, records_in};
+
 use std::alloc::{AllocError, Global};
 use tx_cells::{KeyVersions, RecordAt};
 use tx_plan::{LockHead, RecordHead};
@@ -31,13 +34,6 @@ pub struct SeenRecord {
     pub is_marked: bool,
 }
 
-/// What stands on a key: its lock, and its write records from the newest on.
-#[derive(Drop)]
-pub(crate) struct SeenKey {
-    pub lock: Option<SeenLock>,
-    pub records: Vec<SeenRecord>,
-}
-
 impl Kind {
     /// Its word.
     pub fn word(self) -> &'static str {
@@ -50,7 +46,9 @@ impl Kind {
     }
 }
 
-fn kind_of(kind: LockKind) -> Kind {
+fn kind_of(kind: LockKind) -> Kind
+    ensures { result ≡ kind_of kind }
+{
     match kind {
         LockKind::Put => Kind::Put,
         LockKind::Delete => Kind::Delete,
@@ -58,50 +56,75 @@ fn kind_of(kind: LockKind) -> Kind {
     }
 }
 
-fn lock_of(lock: LockHead) -> SeenLock {
+fn lock_of(lock: LockHead) -> SeenLock
+    ensures { result ≡ lock_of lock }
+{
+    let is_async = match lock.mode {
+        Mode::TwoPhase => false,
+        Mode::Async => true,
+    };
     SeenLock {
         kind: kind_of(lock.kind),
         start: lock.start.get(),
         minimum: lock.min.get(),
-        is_async: lock.mode == Mode::Async,
+        is_async,
     }
 }
 
-// A rollback at a timestamp.
-fn rollback_at(at: u64) -> SeenRecord {
-    SeenRecord {
-        at,
-        kind: Kind::Rollback,
-        start: at,
-        is_marked: false,
-    }
-}
-
-fn record_of(record: &RecordAt) -> SeenRecord {
+fn record_of(record: &RecordAt) -> SeenRecord
+    ensures { result ≡ record_of «record».now }
+{
     let at = record.at.get();
-    match &record.head {
+    match record.head {
         RecordHead::Commit {
             kind,
             start,
             overlapped_rollback,
         } => SeenRecord {
             at,
-            kind: kind_of(*kind),
+            kind: kind_of(kind),
             start: start.get(),
-            is_marked: *overlapped_rollback,
+            is_marked: overlapped_rollback,
         },
-        RecordHead::Rollback => rollback_at(at),
+        RecordHead::Rollback => SeenRecord {
+            at,
+            kind: Kind::Rollback,
+            start: at,
+            is_marked: false,
+        },
     }
 }
 
-/// What stands on a key, by what its region showed of it.
-pub(crate) fn seen_of(alloc: Global, copy: &KeyVersions) -> Result<SeenKey, AllocError> {
-    let mut records = Vec::new(alloc);
-    'records: for record in copy.records.as_slice() {
-        records.push(record_of(record))?;
+/// The lock that stands on a key, by what was shown of it last.
+pub(crate) fn lock_in(shown: Option<&KeyVersions>) -> Option<SeenLock>
+    ensures { result ≡ lock_in (option_map (λ s. s.now) shown.entry) }
+{
+    match shown?.lock {
+        Some(lock) => Some(lock_of(lock)),
+        None => None,
     }
-    Ok(SeenKey {
-        lock: copy.lock.map(lock_of),
-        records,
-    })
+}
+
+// Write records as they are shown.
+fn records_of(alloc: Global, records: &[RecordAt]) -> Result<Vec<SeenRecord>, AllocError>
+    ensures { IfOk result (λ seen. seen.items ≡ map record_of records.now) }
+{
+    let mut seen = Vec::new(alloc);
+    'records: for at in records {
+        seen.push(record_of(at))?;
+    }
+    Ok(seen)
+}
+
+/// The write records that stand on a key, by what was shown of it last.
+pub(crate) fn records_in(
+    alloc: Global,
+    shown: Option<&KeyVersions>,
+) -> Result<Vec<SeenRecord>, AllocError>
+    ensures { IfOk result (λ records. records.items ≡ records_in (option_map (λ s. s.now) shown.entry)) }
+{
+    match shown {
+        Some(shown) => records_of(alloc, shown.records.as_slice()),
+        None => Ok(Vec::new(alloc)),
+    }
 }

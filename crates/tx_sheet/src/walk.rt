@@ -1,65 +1,27 @@
-//! The rows of a script that was played, one after another.
-use crate::change::change_of;
-use crate::machine::words_of;
-use crate::reads::{put_changed, put_taking, value_put};
+//! The words of the rows of a script that was played, one row after another.
 use crate::reason::put_reason;
 use crate::reply::{Reply, put_reply, reply_of};
-use crate::row::{Row, RowKind, Sending};
-use crate::seen::{SeenKey, SeenLock, seen_of};
+use crate::row::{RowKind, Sending};
 use crate::sessions::Sessions;
 use crate::step::{held_as, is_last, put_step, sending_of};
 use crate::words::put_shown;
 use serde_json::Value;
 use std::alloc::{AllocError, Global};
-use std::mem;
-use tx_film::{Film, Frame, KeyShown, session_named};
+use tx_film::{Frame, session_named};
 use tx_reply::{ScriptReply, put_reply as put_reply_line};
 use tx_steps::{Line, Program, Step};
 use tx_text::{Broken, Parts, put_fault, value_of};
-use tx_trace::Taking;
-use tx_types::Key;
 
-/// Where the rows before have led to: what was seen of each key, and the sessions.
+/// What a row says of its line in words.
 #[derive(Drop)]
-pub(crate) struct Walk<'k> {
-    alloc: Global,
-    keys: &'k [Key],
-    film: &'k Film,
-    /// Whether rows have the machine's steps.
-    machine: bool,
-    seen: Vec<SeenKey>,
-    /// Of each key the value that its last lock puts there, as it is shown.
-    values: Vec<String>,
-    pub sessions: Sessions,
-}
-
-// Of each key nothing was seen.
-fn nothing_seen(alloc: Global, count: usize) -> Result<Vec<SeenKey>, AllocError> {
-    let mut seen = Vec::new(alloc);
-    for _ in 0..count {
-        seen.push(SeenKey {
-            lock: None,
-            records: Vec::new(alloc),
-        })?;
-    }
-    Ok(seen)
-}
-
-// Of each key no value.
-fn no_values(alloc: Global, count: usize) -> Result<Vec<String>, AllocError> {
-    let mut values = Vec::new(alloc);
-    for _ in 0..count {
-        values.push(String::new(alloc))?;
-    }
-    Ok(values)
-}
-
-// Whether a lock is the one that stood there, maybe with another minimum.
-fn is_still(old: Option<SeenLock>, lock: SeenLock) -> bool {
-    match old {
-        Some(old) => old.start == lock.start,
-        None => false,
-    }
+pub(crate) struct RowWords {
+    pub kind: RowKind,
+    pub session: Option<usize>,
+    pub step: String,
+    pub sending: Sending,
+    pub held: String,
+    pub answer: String,
+    pub reason: String,
 }
 
 // Appends the list that a line has behind its word.
@@ -74,9 +36,9 @@ fn put_list(alloc: Global, out: &mut String, value: &Value) -> Result<(), AllocE
     Ok(())
 }
 
-// A row of nothing yet.
-fn empty_row(alloc: Global) -> Row {
-    Row {
+// No words yet.
+fn no_words(alloc: Global) -> RowWords {
+    RowWords {
         kind: RowKind::Other,
         session: None,
         step: String::new(alloc),
@@ -84,11 +46,6 @@ fn empty_row(alloc: Global) -> Row {
         held: String::new(alloc),
         answer: String::new(alloc),
         reason: String::new(alloc),
-        targets: Vec::new(alloc),
-        goes_beyond: false,
-        reads: Vec::new(alloc),
-        changes: Vec::new(alloc),
-        machine: Vec::new(alloc),
     }
 }
 
@@ -103,201 +60,114 @@ fn reply_text(alloc: Global, number: u64, frame: &Frame) -> Result<Vec<u8>, Allo
     Ok(text)
 }
 
-// Puts the requests that regions took by a line.
-fn put_takings(
-    alloc: Global,
-    row: &mut Row,
-    keys: &[Key],
-    takings: &[Taking],
-) -> Result<(), AllocError> {
-    'takings: for taking in takings {
-        put_taking(alloc, row, keys, taking)?;
-    }
-    Ok(())
+// The words of a line that is no step.
+fn other_words(words: &mut RowWords, reply: Reply<'_>) -> Result<(), AllocError> {
+    words.step.push_str("(no step)")?;
+    put_reason(&mut words.reason, reply, None)
 }
 
-impl<'k> Walk<'k> {
-    pub fn new(
+// The words of the line that says the regions.
+fn regions_words(
+    alloc: Global,
+    words: &mut RowWords,
+    line: &[u8],
+    reply: Reply<'_>,
+) -> Result<(), Broken> {
+    words.kind = RowKind::Regions;
+    words.step.push_str("regions ")?;
+    if let Ok(value) = value_of(alloc, line)? {
+        put_list(alloc, &mut words.step, &value)?;
+    }
+    Ok(put_reply(&mut words.answer, reply)?)
+}
+
+/// A line of a script that was played, and its place.
+#[derive(Clone, Copy)]
+pub(crate) struct Played<'a> {
+    pub place: usize,
+    pub line: &'a [u8],
+    pub frame: &'a Frame,
+    /// Whether regions took requests by it.
+    pub is_taken: bool,
+}
+
+impl Sessions {
+    // The words of a step.
+    fn step_words(
+        &mut self,
         alloc: Global,
-        keys: &'k [Key],
-        film: &'k Film,
-        machine: bool,
-    ) -> Result<Walk<'k>, AllocError> {
-        Ok(Walk {
-            alloc,
-            keys,
-            film,
-            machine,
-            seen: nothing_seen(alloc, keys.len())?,
-            values: no_values(alloc, keys.len())?,
-            sessions: Sessions::new(alloc),
-        })
-    }
-
-    // Puts what changed of a key among changes, and what then stands there in place of what stood.
-    fn put_change(
-        &mut self,
-        row: &mut Row,
-        takings: &[Taking],
-        shown: &KeyShown,
-    ) -> Result<(), AllocError> {
-        let (Some(old), Some(key)) = (self.seen.get_mut(shown.key), self.keys.get(shown.key)) else {
-            return Ok(());
-        };
-        let new = seen_of(self.alloc, shown.shown.copy())?;
-        let mut change = change_of(self.alloc, shown.key, old, &new)?;
-        drop(mem::replace(old, new));
-        if change.is_none() {
-            return Ok(());
-        }
-        if let Some(lock) = change.lock {
-            if !is_still(change.old_lock, lock) {
-                let value = value_put(self.alloc, takings, key, lock.start)?;
-                self.set_value(shown.key, value);
-            }
-            change.value.push_str(self.value(shown.key))?;
-        }
-        Ok(row.changes.push(change)?)
-    }
-
-    // The value that the last lock on a key puts there.
-    fn value(&self, key: usize) -> &str {
-        match self.values.get(key) {
-            Some(value) => value.as_str(),
-            None => "",
-        }
-    }
-
-    // Notes that value.
-    fn set_value(&mut self, key: usize, value: String) {
-        match self.values.get_mut(key) {
-            Some(kept) => drop(mem::replace(kept, value)),
-            None => drop(value),
-        }
-    }
-
-    // Puts what changed of keys by a line.
-    fn put_changes(
-        &mut self,
-        row: &mut Row,
-        takings: &[Taking],
-        keys: &[KeyShown],
-    ) -> Result<(), AllocError> {
-        'keys: for shown in keys {
-            self.put_change(row, takings, shown)?;
-        }
-        Ok(())
-    }
-
-    // The row of a step.
-    fn step_row(
-        &mut self,
-        row: &mut Row,
-        place: usize,
+        words: &mut RowWords,
+        played: Played<'_>,
         step: &Step<&str>,
-        frame: &Frame,
         reply: Reply<'_>,
     ) -> Result<(), AllocError> {
-        row.kind = RowKind::Step;
-        put_step(&mut row.step, step)?;
-        put_reply(&mut row.answer, reply)?;
-        let is_taken = !self.film.takings(place).is_empty();
-        let is_lost = matches!(frame.reply, Ok(ScriptReply::Lost));
-        row.sending = sending_of(step, is_taken, is_lost);
-        if matches!(row.sending, Sending::Held | Sending::Delivered) {
-            put_shown(&mut row.held, held_as(step))?;
+        words.kind = RowKind::Step;
+        put_step(&mut words.step, step)?;
+        put_reply(&mut words.answer, reply)?;
+        let is_lost = matches!(played.frame.reply, Ok(ScriptReply::Lost));
+        words.sending = sending_of(step, played.is_taken, is_lost);
+        if matches!(words.sending, Sending::Held | Sending::Delivered) {
+            put_shown(&mut words.held, held_as(step))?;
         }
         let Some(name) = session_named(step) else {
-            return put_reason(&mut row.reason, reply, None);
+            return put_reason(&mut words.reason, reply, None);
         };
-        let session = self.sessions.of(self.alloc, name, place)?;
-        row.session = Some(session);
-        self.sessions.note(session, frame);
-        put_reason(&mut row.reason, reply, self.sessions.start(session))?;
-        if (is_last(step) && frame.reply.is_ok()) || !self.sessions.is_begun(session) {
-            self.sessions.end(session, place);
+        let session = self.of(alloc, name, played.place)?;
+        words.session = Some(session);
+        self.note(session, played.frame);
+        put_reason(&mut words.reason, reply, self.start(session))?;
+        if (is_last(step) && played.frame.reply.is_ok()) || !self.is_begun(session) {
+            self.end(session, played.place);
         }
         Ok(())
     }
 
-    // The row of a line that is no step.
-    fn other_row(&self, row: &mut Row, reply: Reply<'_>) -> Result<(), AllocError> {
-        row.step.push_str("(no step)")?;
-        put_reason(&mut row.reason, reply, None)
-    }
-
-    // The row of the line that says the regions.
-    fn regions_row(&self, row: &mut Row, line: &[u8], reply: Reply<'_>) -> Result<(), Broken> {
-        row.kind = RowKind::Regions;
-        row.step.push_str("regions ")?;
-        if let Ok(value) = value_of(self.alloc, line)? {
-            put_list(self.alloc, &mut row.step, &value)?;
-        }
-        Ok(put_reply(&mut row.answer, reply)?)
-    }
-
-    // The row of a line and of its reply.
-    fn line_row(
+    // The words of a line and of its reply.
+    fn line_words(
         &mut self,
-        row: &mut Row,
-        place: usize,
-        line: &[u8],
-        frame: &Frame,
+        alloc: Global,
+        words: &mut RowWords,
+        played: Played<'_>,
         reply: Reply<'_>,
     ) -> Result<(), Broken> {
-        if matches!(frame.reply, Ok(ScriptReply::Regions(_))) {
-            return self.regions_row(row, line, reply);
+        if matches!(played.frame.reply, Ok(ScriptReply::Regions(_))) {
+            return regions_words(alloc, words, played.line, reply);
         }
         let mut parts = Parts::new();
-        let Ok(said) = Line::read(self.alloc, 1, line, &mut parts)? else {
-            return Ok(self.other_row(row, reply)?);
+        let Ok(said) = Line::read(alloc, 1, played.line, &mut parts)? else {
+            return Ok(other_words(words, reply)?);
         };
         match said.step(Program::Simulate) {
-            Some(step) => Ok(self.step_row(row, place, &step, frame, reply)?),
-            None => Ok(self.other_row(row, reply)?),
+            Some(step) => Ok(self.step_words(alloc, words, played, &step, reply)?),
+            None => Ok(other_words(words, reply)?),
         }
     }
 
-    // Fills the row of the line at this place.
-    fn fill(
+    // Puts the words of a line.
+    fn put_words(
         &mut self,
-        row: &mut Row,
-        place: usize,
-        line: &[u8],
-        frame: &Frame,
+        alloc: Global,
+        words: &mut RowWords,
+        played: Played<'_>,
     ) -> Result<(), Broken> {
-        let film = self.film;
-        let takings = film.takings(place);
-        self.put_changes(row, takings, frame.keys.as_slice())?;
-        put_takings(self.alloc, row, self.keys, takings)?;
-        put_changed(row)?;
-        if self.machine {
-            row.machine = words_of(self.alloc, film.steps(place))?;
-        }
-        let number = (place as u64).saturating_add(1);
-        let text = reply_text(self.alloc, number, frame)?;
-        let Ok(value) = value_of(self.alloc, text.as_slice())? else {
+        let number = (played.place as u64).saturating_add(1);
+        let text = reply_text(alloc, number, played.frame)?;
+        let Ok(value) = value_of(alloc, text.as_slice())? else {
             return Ok(());
         };
         match reply_of(&value) {
-            Some(reply) => self.line_row(row, place, line, frame, reply),
+            Some(reply) => self.line_words(alloc, words, played, reply),
             None => Ok(()),
         }
     }
 
-    /// Puts the row of the line at this place behind rows.
-    pub fn put_row(
-        &mut self,
-        rows: &mut Vec<Row>,
-        place: usize,
-        line: &[u8],
-        frame: &Frame,
-    ) -> Result<(), Broken> {
-        let mut row = empty_row(self.alloc);
-        match self.fill(&mut row, place, line, frame) {
-            Ok(()) => Ok(rows.push(row)?),
+    /// The words of a line.
+    pub fn words(&mut self, alloc: Global, played: Played<'_>) -> Result<RowWords, Broken> {
+        let mut words = no_words(alloc);
+        match self.put_words(alloc, &mut words, played) {
+            Ok(()) => Ok(words),
             Err(broken) => {
-                drop(row);
+                drop(words);
                 Err(broken)
             }
         }

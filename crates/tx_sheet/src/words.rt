@@ -1,4 +1,7 @@
 //! Keys, values and names as a picture shows them.
+ghost use Rattle.std.specs.Prelude.{◌≡◌, ◌≤◌, ◌↔◌, ◌++◌, All, IsTrue, IfOk, OnOk, string_bytes};
+ghost use Rattle.tx_sheet.specs.Words.{IsWord};
+
 use itoa::Buffer;
 use std::alloc::{AllocError, Global};
 use unicode_width::UnicodeWidthChar;
@@ -114,9 +117,28 @@ fn put_cut(out: &mut String, text: &str, len: usize) -> Result<(), AllocError> {
     put_number(out, len as u64)
 }
 
+// Whether these are ASCII characters that are printable, and no spaces.
+fn are_graphic(bytes: &[u8]) -> bool
+    ensures { IsTrue result ↔ All (λ b. (33 ≤ b) × (b ≤ 126)) bytes.now }
+{
+    bytes.iter().all(|byte| *byte >= b'!' && *byte <= b'~')
+}
+
+// Whether a text is a short word, as most are.
+fn is_word(text: &str) -> bool
+    ensures { IsTrue result ↔ IsWord text.now }
+{
+    !text.is_empty() && text.len() <= MAX_PLACES && are_graphic(text.as_bytes())
+}
+
 /// Appends a key, a value or a name: as it is where it is printable, not empty and has no space,
 /// else as a JSON string; of a long one its beginning and its length in bytes.
-pub(crate) fn put_shown(out: &mut String, text: &str) -> Result<(), AllocError> {
+pub(crate) fn put_shown(out: &mut String, text: &str) -> Result<(), AllocError>
+    ensures { OnOk result (IsWord text.now → string_bytes out.new ≡ string_bytes out.old ++ text.now) }
+{
+    if is_word(text) {
+        return out.push_str(text);
+    }
     if is_plain(text) {
         return put_cut(out, text, text.len());
     }
@@ -126,12 +148,19 @@ pub(crate) fn put_shown(out: &mut String, text: &str) -> Result<(), AllocError> 
 }
 
 /// Appends a key or a value as it is shown.
-pub(crate) fn put_bytes(out: &mut String, bytes: &[u8]) -> Result<(), AllocError> {
-    put_shown(out, str::from_utf8(bytes).unwrap_or("(no text)"))
+pub(crate) fn put_bytes(out: &mut String, bytes: &[u8]) -> Result<(), AllocError>
+    ensures { OnOk result (IsWord bytes.now → string_bytes out.new ≡ string_bytes out.old ++ bytes.now) }
+{
+    match str::from_utf8(bytes) {
+        Ok(text) => put_shown(out, text),
+        Err(_) => put_shown(out, "(no text)"),
+    }
 }
 
 /// A key or a value as it is shown.
-pub(crate) fn shown_bytes(alloc: Global, bytes: &[u8]) -> Result<String, AllocError> {
+pub(crate) fn shown_bytes(alloc: Global, bytes: &[u8]) -> Result<String, AllocError>
+    ensures { IfOk result (λ text. IsWord bytes.now → string_bytes text ≡ bytes.now) }
+{
     let mut out = String::new(alloc);
     put_bytes(&mut out, bytes)?;
     Ok(out)

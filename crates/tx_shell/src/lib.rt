@@ -9,6 +9,7 @@ mod asked;
 mod cells;
 mod checked;
 mod counter;
+mod explained;
 mod failure;
 mod generated;
 mod perform;

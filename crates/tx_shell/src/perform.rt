@@ -1,10 +1,9 @@
 //! What each command does with its input.
 use crate::asked::Invocation;
-use crate::cells::{
-    converse_over, explain_over, go_on_over, run_over, simulate_checked_over, simulate_over,
-};
+use crate::cells::{converse_over, go_on_over, run_over, simulate_checked_over, simulate_over};
 use crate::checked::steps_over;
 use crate::counter::Watching;
+use crate::explained::explain_part;
 use crate::generated::generate_script;
 use crate::reduced::reduce_script;
 use crate::stages::Stages;
@@ -17,20 +16,21 @@ use std::thread::Threads;
 use std::time::{Duration, Instant};
 use tx_answers::{Answered, CycleForm, ImportEnd, ImportOptions, import};
 use tx_check::{check, check_all, check_with_reason};
-use tx_command::{CommandEnd, CommandTask, ExplainOptions};
-use tx_explain::{PictureForm, PictureOptions};
+use tx_command::{CommandEnd, CommandTask, LevelKind};
 use tx_hints::escaped_lines;
 use tx_recording::Orders;
 use tx_run::{RunResult, Settings};
 use tx_text::{Broken, End};
+use tx_verdict::{Level, Question};
 
 // Tells what was played in so much time. What cannot be told is left out.
 fn report(host: HostRuntime, played: &RunResult, elapsed: Duration) {
     let stats = stats_of(played, elapsed);
-    let refusals = played.refusals;
+    let (requests, refusals) = (played.requests, played.refusals);
     let _ = eprint!(host; "{stats}");
-    let _ = eprintln!(host; "txkv: refused: {refusals}");
-    let _ = eprintln!(host; "txkv: {} locks asked after", refusals.resolves);
+    let _ = eprintln!(host; "txkv: refused: {requests}");
+    let _ = eprintln!(host; "txkv: {} locks asked after", requests.resolves);
+    let _ = eprintln!(host; "txkv: lines refused: {refusals}");
 }
 
 // Runs the sessions of a script side by side.
@@ -61,6 +61,19 @@ where
         swap(&mut stages.lines, &mut played.stages);
     }
     Ok(end)
+}
+
+// What is asked of a history.
+fn question_of(told: tx_command::ImportOptions) -> Question {
+    let level = match told.level {
+        LevelKind::Snapshot => Level::Snapshot,
+        LevelKind::Serializable => Level::Serializable,
+    };
+    let orders = Orders {
+        sessions: told.sessions,
+        strict: told.strict,
+    };
+    Question { level, orders }
 }
 
 // How a cycle is told.
@@ -97,25 +110,6 @@ fn judge<I: BufRead, O: Write>(
     })
 }
 
-// What a picture is asked to be.
-fn form_asked(told: ExplainOptions) -> PictureForm {
-    if told.html {
-        PictureForm::Page
-    } else if told.svg {
-        PictureForm::Drawing
-    } else {
-        PictureForm::Text
-    }
-}
-
-// What is asked of a picture.
-fn picture_asked(told: ExplainOptions) -> PictureOptions {
-    PictureOptions {
-        form: form_asked(told),
-        machine: told.machine,
-    }
-}
-
 // Plays or checks what is asked over these streams, but for histories.
 fn play<R, I, O>(
     rt: &R,
@@ -147,10 +141,7 @@ where
         CommandTask::SimulateBeside => {
             steps_over(alloc, cells, true, reader, writer, stages, copy)
         }
-        CommandTask::Explain(told) => {
-            let options = picture_asked(told);
-            explain_over(alloc, cells, options, reader, writer, &mut stages.stop)
-        }
+        CommandTask::Explain(told) => explain_part(asked, told, reader, writer, &mut stages.stop),
         CommandTask::Generate(told) => generate_script(alloc, told, writer),
         CommandTask::Reduce => reduce_script(asked, reader, writer),
         CommandTask::Check | CommandTask::Import(_) => check(alloc, reader, writer),
@@ -181,12 +172,8 @@ where
 {
     match asked.job.task {
         CommandTask::Import(told) => {
-            let orders = Orders {
-                sessions: told.sessions,
-                strict: told.strict,
-            };
             let options = ImportOptions {
-                orders,
+                question: question_of(told),
                 trace: told.trace,
                 form: form_of(told),
                 all: told.all,

@@ -7,8 +7,8 @@ use tx_hints::escaped;
 use tx_reduce::reduce;
 use tx_text::{Broken, End, finish, send};
 
-// Reads all that is left.
-fn read_all<I: BufRead>(host: HostRuntime, reader: &mut I) -> Result<Vec<u8>, Broken> {
+/// Reads all that is left.
+pub(crate) fn read_all<I: BufRead>(host: HostRuntime, reader: &mut I) -> Result<Vec<u8>, Broken> {
     let mut text = Vec::new(host.alloc());
     match reader.read_to_end(&mut text) {
         Ok(_) => Ok(text),

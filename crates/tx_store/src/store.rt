@@ -1,5 +1,5 @@
 //! Regions, each behind a lock of its own.
-ghost use Rattle.std.specs.Prelude.{◌≡◌, ◌↔◌, IsTrue, ℕ, ◌+◌, ◌<◌, ◌≤◌, [], All, Some, IfErr, IfOk, IfSome, IsSomeAnd, OnOk, length, slice_get, vec_len};
+ghost use Rattle.std.specs.Prelude.{◌≡◌, ◌↔◌, IsTrue, ℕ, ◌+◌, ◌<◌, ◌≤◌, [], All, None, Some, IfErr, IfOk, IfSome, IsSomeAnd, OnOk, length, slice_get, vec_len};
 ghost use Rattle.tx_types.specs.declared.key.Key.{Key};
 ghost use Rattle.tx_types.specs.declared.fault.Fault.TheVariants.{OutOfMemory};
 ghost use Rattle.tx_cells.specs.Contents.{nothing_held};
@@ -204,24 +204,25 @@ impl<J: JournalId, F: Families + Drop> Store<J, F> {
         region.lock(rt)
     }
 
-    // Copies what a request of one key sees of it in the region that holds it, into a try.
+    // Copies what the request of a reply, which is of one key, sees of it in the region that holds
+    // it, into a try.
     fn copy_at<R: Wait>(
         &self,
         rt: &R,
         index: usize,
-        request: &mut Request<J>,
+        place: &mut Reply<J>,
         attempt: &mut Attempt<J>,
     ) -> Result<(), Fault>
         requires index { index ≤ length J.bounds }
-        requires of_key { IsOfKey request.old.body }
-        ensures same { request.new ≡ request.old }
-        ensures copy { OnOk result (IsSomeAnd attempt.new.copy (λ copy. IsCopyFor request.old copy
+        requires of_key { IsOfKey place.old.request.body }
+        ensures same { place.new ≡ place.old }
+        ensures copy { OnOk result (IsSomeAnd attempt.new.copy (λ copy. IsCopyFor place.new.request copy
             × (copy.region ≡ index))) }
     {
         for _ in rt.forever() {
             let mut region = self.locked(rt, index);
             if is_at(&*region, index) {
-                return region.copy_into(request, attempt);
+                return region.copy_into(place, attempt);
             }
         }
         unreachable!()
@@ -254,53 +255,73 @@ impl<J: JournalId, F: Families + Drop> Store<J, F> {
         unreachable!()
     }
 
-    // Answers a request in the region that holds it, which plans it while no other call has the
-    // region.
+    // Answers the request of a reply in the region that holds it, which plans it while no other
+    // call has the region.
     #[inline(never)]
-    fn take_at<R: Wait>(&self, rt: &R, index: usize, request: Request<J>) -> Reply<J>
+    fn take_at<R: Wait>(&self, rt: &R, index: usize, place: &mut Reply<J>)
         requires index { index ≤ length J.bounds }
-        requires holds { Holds J.bounds index request.body }
-        ensures request { result.request ≡ request }
-        ensures given { IsGiven J.bounds result }
+        requires holds { Holds J.bounds index place.old.request.body }
+        ensures request { place.new.request ≡ place.old.request }
+        ensures given { IsGiven J.bounds place.new }
     {
         for _ in rt.forever() {
             let mut region = self.locked(rt, index);
             if is_at(&*region, index) {
-                let reply = region.take(request);
+                region.take_in(place);
                 // For proofs: what a reply tells.
-                let _ = reply.answer();
-                return reply;
+                let _ = place.answer();
+                return;
             }
         }
         unreachable!()
     }
 
-    // Answers a request of one key in the region that holds it. It is planned of a copy, while
-    // other calls may have the region; where the plan is no longer right, three times, the request
-    // is planned while no other call has it.
-    fn run_at<R: Wait>(&self, rt: &R, index: usize, mut request: Request<J>) -> Reply<J>
+    // Answers the request of a reply, which is of one key, in the region that holds it. It is
+    // planned of a copy, while other calls may have the region; where the plan is no longer right,
+    // three times, the request is planned while no other call has it.
+    fn run_at<R: Wait>(&self, rt: &R, index: usize, place: &mut Reply<J>)
         requires index { index ≤ length J.bounds }
-        requires holds { Holds J.bounds index request.body }
-        requires of_key { IsOfKey request.body }
-        ensures request { result.request ≡ request }
-        ensures given { IsGiven J.bounds result }
+        requires holds { Holds J.bounds index place.old.request.body }
+        requires of_key { IsOfKey place.old.request.body }
+        ensures request { place.new.request ≡ place.old.request }
+        ensures given { IsGiven J.bounds place.new }
     {
         let mut attempt = Attempt::new(SeatNo::new(0));
         for _try in 0..TRIES {
-            if self.copy_at(rt, index, &mut request, &mut attempt).is_err() {
+            if self.copy_at(rt, index, place, &mut attempt).is_err() {
                 break;
             }
-            attempt.plan(&request);
-            if let Some(told) = self.apply_at(rt, index, &request, &mut attempt) {
-                return Reply::new(request, attempt.take_answer(), told);
+            let request = place.request();
+            attempt.plan(request);
+            if let Some(told) = self.apply_at(rt, index, request, &mut attempt) {
+                place.fill(attempt.take_answer(), told);
+                return;
             }
         }
-        self.take_at(rt, index, request)
+        self.take_at(rt, index, place);
     }
 
-    /// Hands a request to the region that holds what it speaks of, once no other call has that
-    /// region. The reply tells who answered, and after what. An answer is that of this request, by
-    /// an event that comes after all that the sender had seen: no old one is handed out again.
+    /// Hands the request of a reply that has no answer yet to the region that holds what it speaks
+    /// of, once no other call has that region, and leaves the answer in the reply, which tells who
+    /// answered, and after what. An answer is that of this request, by an event that comes after
+    /// all that the sender had seen: no old one is handed out again.
+    pub fn run_in<R: Wait>(&self, rt: &R, place: &mut Reply<J>)
+        requires held { IsHeld J.bounds place.old.request.body }
+        requires empty { place.old.answer ≡ None }
+        ensures request { place.new.request ≡ place.old.request }
+        ensures given { IsGiven J.bounds place.new }
+        ensures answered { IfSome place.new.answer (IsAnswered J.bounds place.old.request place.new.events) }
+    {
+        let body = place.body();
+        let index = self.index_of(body);
+        if is_of_key(body) {
+            self.run_at(rt, index, place);
+        } else {
+            self.take_at(rt, index, place);
+        }
+    }
+
+    /// The same of a request that stands in no reply yet. The reply is that to this request.
     pub fn run<R: Wait>(&self, rt: &R, request: Request<J>) -> Reply<J>
         requires { IsHeld J.bounds request.body }
         ensures request { result.request ≡ request }
@@ -308,10 +329,12 @@ impl<J: JournalId, F: Families + Drop> Store<J, F> {
         ensures answered { IfSome result.answer (IsAnswered J.bounds request result.events) }
     {
         let index = self.index_of(request.body());
-        if is_of_key(request.body()) {
-            self.run_at(rt, index, request)
-        } else {
-            self.take_at(rt, index, request)
-        }
+        let mut region = self.locked(rt, index);
+        let told = region.tell();
+        drop(region);
+        told.show();
+        let mut reply = Reply::new(request, None, told);
+        self.run_in(rt, &mut reply);
+        reply
     }
 }

@@ -55,6 +55,12 @@ impl<'a, J: JournalId, F: Families + Drop, R: Wait> Sender<Request<J>, Reply<J>>
         Ok(self.store.run(self.rt, request))
     }
 
+    fn send_in(&mut self, place: &mut Option<Reply<J>>) {
+        if let Some(reply) = place {
+            self.store.run_in(self.rt, reply);
+        }
+    }
+
     fn bounds(&self) -> &[Key] {
         self.store.bounds()
     }

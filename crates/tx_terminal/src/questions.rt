@@ -4,7 +4,7 @@ use std::alloc::{AllocError, Global};
 use std::io::Write;
 use tx_cells::Fresh;
 use tx_command::{SIMULATE_HELP, topic};
-use tx_explain::{PictureForm, PictureOptions, explain};
+use tx_explain::{PictureOptions, RunQuestion, answer, explain};
 use tx_film::{keys_of, lines_of};
 use tx_hints::escaped;
 use tx_script::{Broken, Plain, simulate, simulate_checked};
@@ -19,7 +19,10 @@ const QUESTIONS: &str = "At a terminal:
   :help         All steps, and these words
   :keys         What stands on each key: its lock, its records, its long values
   :sessions     The live sessions, each with its last line and the reply to it
+  :held         The requests that are held and were not delivered, and where they go
+  :why          Why the last line was refused that was, and which line had caused it
   :steps        The steps of the one-step machine so far
+  :machine      What a session that begins now would read of that machine
   :explain      The run so far, as txkv explain shows it
   :script       The lines that went well
   :write FILE   Writes these to a new file
@@ -218,10 +221,7 @@ fn sessions<F: Fresh>(alloc: Global, script: &[u8]) -> Result<Vec<u8>, Broken> {
 // The run so far.
 fn picture<F: Fresh>(alloc: Global, script: &[u8]) -> Result<Vec<u8>, Broken> {
     let mut out = Vec::new(alloc);
-    let options = PictureOptions {
-        form: PictureForm::Text,
-        machine: false,
-    };
+    let options = PictureOptions::TEXT;
     explain::<F, _, _, _>(alloc, &Plain, options, &mut &*script, &mut out, &mut None)?;
     Ok(out)
 }
@@ -252,7 +252,10 @@ pub(crate) fn answer_question<F: Fresh, O: Write>(
     let text = match word {
         ":keys" => keys::<F>(alloc, script)?,
         ":sessions" => sessions::<F>(alloc, script)?,
+        ":held" => answer::<F, _>(alloc, &Plain, RunQuestion::Held, script)?,
+        ":why" => answer::<F, _>(alloc, &Plain, RunQuestion::Why, script)?,
         ":steps" => steps::<F>(alloc, script)?,
+        ":machine" => answer::<F, _>(alloc, &Plain, RunQuestion::Machine, script)?,
         ":script" => script.to_vec(alloc)?,
         ":explain" => picture::<F>(alloc, script)?,
         "help" | ":help" | "?" => help(alloc, rest.trim())?,

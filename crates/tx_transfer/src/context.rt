@@ -105,6 +105,13 @@ impl<J: JournalId, F: Families + Drop, R: Wait + Drop> Sender<Request<J>, Reply<
         Ok(reply)
     }
 
+    fn send_in(&mut self, place: &mut Option<Reply<J>>) {
+        if let Some(reply) = place {
+            self.store.run_in(&self.rt, reply);
+            self.note(&*reply);
+        }
+    }
+
     fn bounds(&self) -> &[Key] {
         self.store.bounds()
     }

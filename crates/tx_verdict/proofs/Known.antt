@@ -4,12 +4,13 @@ use Rattle.std.proofs.Common.{◌≡◌, ◌⊎◌, ℕ, ◌+◌, ◌<◌, ◌�
 use Rattle.std.proofs.lemmas.Bool.{cases_lt}
 use Rattle.std.proofs.lemmas.Option.{slice_get_within, get_or_from_slice_get}
 use Rattle.std.proofs.lemmas.List.Elements.{Contains-push_cases}
-use Rattle.tx_recording.specs.declared.recording.Orders.{Orders}
 use Rattle.tx_recording.specs.declared.recording.Recording.{Recording}
 use Rattle.tx_recording.specs.Explanations.{Explanation, IsWriter, IsNewest, Explains}
 use Rattle.tx_views.specs.declared.owner.Owner.{Owner}
 use Rattle.tx_views.specs.Owners.{AreOwners}
 use Rattle.tx_clock.proofs.ClockOrder.{is_one}
+use Rattle.tx_verdict.specs.declared.question.Level.TheVariants.{Serializable}
+use Rattle.tx_verdict.specs.declared.question.Question.{Question}
 use Rattle.tx_verdict.specs.declared.verdict.Edge.{Edge}
 use Rattle.tx_verdict.specs.declared.verdict.Edge.TheVariants.{Ww, Wr, Rw, So, Rt}
 use Rattle.tx_verdict.specs.declared.verdict.CycleStep.{CycleStep}
@@ -20,6 +21,7 @@ use Rattle.tx_verdict.specs.declared.refutation.Lemma.{Lemma}
 use Rattle.tx_verdict.specs.declared.refutation.Refutation.{Refutation}
 use Rattle.tx_verdict.specs.Reasons.{SawOf, HasWritten, IsNext}
 use Rattle.tx_verdict.specs.Refutations.{IsOrder, opposite, IsTrain, IsOrdered, IsByOrder, IsStepBy, IsRoundBy, IsSettledBy, IsUnit, ClosesBy, IsClauseBy, AreLemmasBy, IsRefutationBy, IsRefutation}
+use Rattle.tx_verdict.specs.Questions.{IsSerial}
 use Rattle.tx_verdict.specs.Verdicts.{IsRefused}
 use Rattle.tx_verdict.proofs.Reasons.{newest_of, writer_of, next_of}
 use Rattle.tx_verdict.proofs.Rounds.{IsHeld, Leads, step_held, none_goes_round}
@@ -64,13 +66,13 @@ behind_first x xs y (i, lt, is) = (suc i, omega (arith, lt), is)
 there_by : {X : Type 0} (xs : List X) (n : ℕ) (x : X) → slice_get xs n ≡ Some x → Contains xs x
 there_by xs n x at = (n, slice_get_within xs n x at, get_or_from_slice_get xs n x x at)
 
-module _ (r : Recording) (table : List (Option Owner)) (owners : AreOwners r table) (orders : Orders) (x : Explanation)
-    (e : Explains r orders x) where
+module _ (r : Recording) (table : List (Option Owner)) (owners : AreOwners r table) (asked : Question) (x : Explanation)
+    (e : Explains r asked.orders x) (serial : asked.level ≡ Serializable → IsSerial x) where
   -- who wrote before b lets the next one do so
   forth : (k t u b : ℕ) → IsWriter r x u k → IsWriter r x b k → (u ≡ b → ⊥) → IsNext r k t u
       → x.commit t ≤ x.start b → x.commit u ≤ x.start b
   forth k t u b writer also other next before =
-      let newest = next_of r table owners orders x e k t u next in
+      let newest = next_of r table owners asked.orders x e k t u next in
       elim (e.apart k u b writer also other) [
         | inl so ↦ so
         | inr upto ↦ absurd (
@@ -84,7 +86,7 @@ module _ (r : Recording) (table : List (Option Owner)) (owners : AreOwners r tab
   back : (k t u a : ℕ) → IsWriter r x t k → IsWriter r x a k → (t ≡ a → ⊥) → IsNext r k t u
       → x.commit a ≤ x.start u → x.commit a ≤ x.start t
   back k t u a writer also other next before =
-      let newest = next_of r table owners orders x e k t u next in
+      let newest = next_of r table owners asked.orders x e k t u next in
       elim (e.apart k t a writer also other) [
         | inl upto ↦ absurd (
             let least = newest.2 a also before in
@@ -104,7 +106,7 @@ module _ (r : Recording) (table : List (Option Owner)) (owners : AreOwners r tab
       let same : i + 1 ≡ suc i = omega arith in
       let one = each (i + 1) upto in
       subst P same (forth k (slice_index ws i) (slice_index ws (i + 1)) b
-      (writer_of r table owners orders x e (slice_index ws (i + 1)) k one.0) also one.1
+      (writer_of r table owners asked.orders x e (slice_index ws (i + 1)) k one.0) also one.1
       (links i (omega (arith, upto)))
       (train_forth k ws n t u b (from, to, each, links) also before i (omega (arith, upto))))
 
@@ -117,7 +119,7 @@ module _ (r : Recording) (table : List (Option Owner)) (owners : AreOwners r tab
   train_back k ws n t u a (from, to, each, links) also i (suc j) is before =
       let one = each i (omega (arith, is)) in
       back k (slice_index ws i) (slice_index ws (i + 1)) a
-      (writer_of r table owners orders x e (slice_index ws i) k one.0) also one.1
+      (writer_of r table owners asked.orders x e (slice_index ws i) k one.0) also one.1
       (links i (omega (arith, is)))
       (train_back k ws n t u a (from, to, each, links) also (i + 1) j (omega (arith, is)) before)
 
@@ -125,12 +127,12 @@ module _ (r : Recording) (table : List (Option Owner)) (owners : AreOwners r tab
   train_from : (k : ℕ) (ws : List ℕ) (n t u b : ℕ) → IsTrain r k ws n t u b → IsWriter r x t k
   train_from k ws n t u b (from, to, each, links) =
       subst (λ q. IsWriter r x q k) from
-      (writer_of r table owners orders x e (slice_index ws 0) k (each 0 (omega arith)).0)
+      (writer_of r table owners asked.orders x e (slice_index ws 0) k (each 0 (omega arith)).0)
 
   train_to : (k : ℕ) (ws : List ℕ) (n t u b : ℕ) → IsTrain r k ws n t u b → IsWriter r x u k
   train_to k ws n t u b (from, to, each, links) =
       subst (λ q. IsWriter r x q k) to
-      (writer_of r table owners orders x e (slice_index ws n) k (each n (omega arith)).0)
+      (writer_of r table owners asked.orders x e (slice_index ws n) k (each n (omega arith)).0)
 
   reader_of : (t k w : ℕ) → SawOf r t k w → IsTrue (x.committed t)
   reader_of t k w (xs, (p, span, (ok, act), of_key, iff), some, put) = e.ok t (is_one r t ok) ok
@@ -154,7 +156,7 @@ module _ (r : Recording) (table : List (Option Owner)) (owners : AreOwners r tab
         (so.0.0, λ also. so.2)
     by_order Rw t u (Some k) (w, saw, is) =
         let so = ordered_of k w u is in
-        let newest = newest_of r table owners orders x e t k w saw in (
+        let newest = newest_of r table owners asked.orders x e t k w saw in (
           reader_of t k w saw,
           λ also. elim (cases_lt (x.start t) (x.commit u)) [
             | inl lt ↦ lt
@@ -172,21 +174,21 @@ module _ (r : Recording) (table : List (Option Owner)) (owners : AreOwners r tab
     by_order So t u key is = absurd is
     by_order Rt t u key is = absurd is
 
-    held_of : (s : CycleStep) → IsStepBy r orders known s → IsHeld x s
-    held_of s (inl is) = step_held r table owners orders x e s is
+    held_of : (s : CycleStep) → IsStepBy r asked.orders known s → IsHeld x s
+    held_of s (inl is) = step_held r table owners asked.orders x e s is
     held_of s (inr is) = by_order s.edge s.from s.to s.key is
 
     -- such a round never closes
-    none_closes : (steps : List CycleStep) → IsRoundBy r orders known steps → ⊥
-    none_closes steps (round, apart, all) = none_goes_round r table owners orders x e steps
-        (λ s there. held_of s (all s there)) round apart
+    none_closes : (steps : List CycleStep) → IsRoundBy r asked known steps → ⊥
+    none_closes steps (round, forbids, all) = none_goes_round r table owners asked.orders x e asked.level serial steps
+        (λ s there. held_of s (all s there)) round forbids
 
-  settled_holds : (known : List Order) → AllHold x known → (f : Settled) → IsSettledBy r orders known f
+  settled_holds : (known : List Order) → AllHold x known → (f : Settled) → IsSettledBy r asked known f
       → Holds x f.order
   settled_holds known hold f ((first, second, other), round) =
       elim (e.apart f.order.key f.order.first f.order.second
-      (writer_of r table owners orders x e f.order.first f.order.key first)
-      (writer_of r table owners orders x e f.order.second f.order.key second) other) [
+      (writer_of r table owners asked.orders x e f.order.first f.order.key first)
+      (writer_of r table owners asked.orders x e f.order.second f.order.key second) other) [
         | inl so ↦ so
         | inr not ↦ absurd (none_closes (known ++ opposite f.order ∷ [])
             (more_hold x (opposite f.order) known not hold) f.round.items round)
@@ -195,8 +197,8 @@ module _ (r : Recording) (table : List (Option Owner)) (owners : AreOwners r tab
   -- an order and its opposite do not both hold
   never_both : (o : Order) → IsOrder r o → Holds x o → Holds x (opposite o) → ⊥
   never_both o (first, second, other) so not =
-      let a = e.above o.first (writer_of r table owners orders x e o.first o.key first).0 in
-      let b = e.above o.second (writer_of r table owners orders x e o.second o.key second).0 in
+      let a = e.above o.first (writer_of r table owners asked.orders x e o.first o.key first).0 in
+      let b = e.above o.second (writer_of r table owners asked.orders x e o.second o.key second).0 in
       omega (arith, so, not, a, b)
 
   unit_holds : (known clause : List Order) (o : Order) → AllHold x known → OneHolds r x clause → IsUnit known clause o
@@ -207,7 +209,7 @@ module _ (r : Recording) (table : List (Option Owner)) (owners : AreOwners r tab
   ]
 
   none_with : (lemmas : List Lemma) → AllSound r x lemmas → (known : List Order) → AllHold x known → (hints : List Hint)
-      (round : List CycleStep) → ClosesBy r orders lemmas known hints round → ⊥
+      (round : List CycleStep) → ClosesBy r asked lemmas known hints round → ⊥
   none_with lemmas sound known hold [] round closes = none_closes known hold round closes
   none_with lemmas sound known hold (h ∷ hs) round ((l, at, unit), closes) =
       let so = unit_holds known l.clause.items h.order hold (sound l (there_by lemmas h.lemma l at)) unit in
@@ -215,12 +217,12 @@ module _ (r : Recording) (table : List (Option Owner)) (owners : AreOwners r tab
 
   clause_holds : (lemmas : List Lemma) → AllSound r x lemmas → (known : List Order) → AllHold x known
       → (clause : List Order) (hints : List Hint) (round : List CycleStep)
-      → IsClauseBy r orders lemmas known clause hints round → OneHolds r x clause
+      → IsClauseBy r asked lemmas known clause hints round → OneHolds r x clause
   clause_holds lemmas sound known hold [] hints round closes =
       absurd (none_with lemmas sound known hold hints round closes)
   clause_holds lemmas sound known hold (o ∷ os) hints round ((first, second, other), rest) =
-      elim (e.apart o.key o.first o.second (writer_of r table owners orders x e o.first o.key first)
-      (writer_of r table owners orders x e o.second o.key second) other) [
+      elim (e.apart o.key o.first o.second (writer_of r table owners asked.orders x e o.first o.key first)
+      (writer_of r table owners asked.orders x e o.second o.key second) other) [
         | inl so ↦ (o, first_of o os, (first, second, other), so)
         | inr not ↦ (
             let (p, there, order, so) = clause_holds lemmas sound (known ++ opposite o ∷ [])
@@ -238,7 +240,7 @@ module _ (r : Recording) (table : List (Option Owner)) (owners : AreOwners r tab
 
   none_follows : (known : List Order) → AllHold x known → (before : List Lemma) → AllSound r x before
       → (lemmas : List Lemma) (hints : List Hint) (last : List CycleStep)
-      → AreLemmasBy r orders known before lemmas hints last → ⊥
+      → AreLemmasBy r asked known before lemmas hints last → ⊥
   none_follows known hold before sound [] hints last closes = none_with before sound known hold hints last closes
   none_follows known hold before sound (l ∷ ls) hints last (is, rest) =
       none_follows known hold (before ++ l ∷ [])
@@ -246,7 +248,7 @@ module _ (r : Recording) (table : List (Option Owner)) (owners : AreOwners r tab
       ls hints last rest
 
   none_explains : (known : List Order) → AllHold x known → (facts : List Settled) (all : Refutation)
-      → IsRefutationBy r orders known facts all → ⊥
+      → IsRefutationBy r asked known facts all → ⊥
   none_explains known hold [] all rest =
       none_follows known hold [] (none_sound r x) all.lemmas.items all.hints.items all.last.items rest
   none_explains known hold (f ∷ fs) all (settled, rest) =
@@ -254,7 +256,7 @@ module _ (r : Recording) (table : List (Option Owner)) (owners : AreOwners r tab
       (more_hold x f.order known (settled_holds known hold f settled) hold) fs all rest
 
 -- a refutation refuses each explanation
-pub refuted_by : (r : Recording) (table : List (Option Owner)) → AreOwners r table → (orders : Orders)
-    (all : Refutation) → IsRefutation r orders all → IsRefused r orders
-refuted_by r table owners orders all is x e =
-    none_explains r table owners orders x e [] (none_known x) all.facts.items all is
+pub refuted_by : (r : Recording) (table : List (Option Owner)) → AreOwners r table → (asked : Question)
+    (all : Refutation) → IsRefutation r asked all → IsRefused r asked
+refuted_by r table owners asked all is x (e, serial) =
+    none_explains r table owners asked x e serial [] (none_known x) all.facts.items all is

@@ -9,6 +9,7 @@ pub mod Blocks
 pub mod Reasons
 pub mod Chains
 pub mod Trains
+pub mod InTurn
 pub mod Small
 pub mod Whole
 pub mod Prefixes

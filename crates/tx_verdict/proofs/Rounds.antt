@@ -1,18 +1,22 @@
--- Steps that go round, of which no two neighbours are anti-dependencies, refuse each explanation by
+-- Steps that go round, as the level that is asked for forbids, refuse each explanation by
 -- themselves.
-use Rattle.std.proofs.Common.{◌≡◌, ◌⊎◌, ℕ, ◌+◌, ◌-◌, ◌<◌, ◌≤◌, List, length, Contains, arith, inl, inr, refl, subst, zero, suc, IsTrue, Option, Some, None}
+use Rattle.std.proofs.Common.{◌≡◌, ◌≢◌, ◌⊎◌, ℕ, ◌+◌, ◌-◌, ◌<◌, ◌≤◌, List, length, Contains, arith, inl, inr, refl, subst, zero, suc, IsTrue, Option, Some, None}
 use Rattle.std.proofs.lemmas.Bool.{cases_eq}
 use Rattle.std.proofs.lemmas.List.Elements.{Contains-get_or}
+use Rattle.tx_verdict.specs.declared.question.Level.{Level}
+use Rattle.tx_verdict.specs.declared.question.Level.TheVariants.{Snapshot, Serializable}
 use Rattle.tx_recording.specs.declared.recording.Orders.{Orders}
 use Rattle.tx_recording.specs.declared.recording.Recording.{Recording}
 use Rattle.tx_recording.specs.Explanations.{Explanation, Explains}
 use Rattle.tx_views.specs.declared.owner.Owner.{Owner}
 use Rattle.tx_views.specs.Owners.{AreOwners}
 use Rattle.tx_clock.proofs.ClockOrder.{is_one}
+use Rattle.tx_verdict.specs.declared.question.Question.{Question}
 use Rattle.tx_verdict.specs.declared.verdict.Edge.{Edge}
 use Rattle.tx_verdict.specs.declared.verdict.Edge.TheVariants.{Ww, Wr, Rw, So, Rt}
 use Rattle.tx_verdict.specs.declared.verdict.CycleStep.{CycleStep}
-use Rattle.tx_verdict.specs.Steps.{IsEdgeOf, IsStep, AreSteps, AreRound, AreApart, step_at}
+use Rattle.tx_verdict.specs.Steps.{IsEdgeOf, IsStep, AreSteps, AreRound, AreApart, AreOfTwo, Forbids, step_at}
+use Rattle.tx_verdict.specs.Questions.{IsSerial}
 use Rattle.tx_verdict.specs.Verdicts.{IsRefused}
 use Rattle.tx_verdict.proofs.Reasons.{newest_of, writer_of, committed_of, behind_of, missed_of}
 
@@ -175,8 +179,8 @@ module _ (r : Recording) (table : List (Option Owner)) (owners : AreOwners r tab
           )
     ]
 
-    pub none_goes_round : ⊥
-    none_goes_round = elim (other (step_at steps 0).edge) [
+    apart_never : ⊥
+    apart_never = elim (other (step_at steps 0).edge) [
       | inl rw ↦ by_second rw
       | inr upto ↦ (
           let some = round.0 in
@@ -188,6 +192,60 @@ module _ (r : Recording) (table : List (Option Owner)) (owners : AreOwners r tab
           )
     ]
 
+  module _ (serial : IsSerial x) (steps : List CycleStep) (all : (s : CycleStep) → Contains steps s → IsHeld x s)
+      (round : AreRound steps) (two : AreOfTwo steps) where
+    there : (i : ℕ) → i < length steps → Contains steps (step_at steps i)
+    there i lt = Contains-get_or steps i record { from = 0; edge = Ww; key = None; to = 0 } lt
+
+    -- what lies at or below the start of one that commits lies below that of the other
+    over_serial : (edge : Edge) (t u : ℕ) → t ≢ u → IsTrue (x.committed t) → IsTrue (x.committed u)
+        → Leads x edge t u → x.start t < x.start u
+    over_serial Rw t u differ a b lead =
+        let above = e.above t a in
+        elim (serial t u a b differ) [
+          | inl le ↦ omega (arith, above, le)
+          | inr le ↦ absurd (omega (arith, lead, le))
+        ]
+    over_serial Ww t u differ a b lead = (let above = e.above t a in omega (arith, above, lead))
+    over_serial Wr t u differ a b lead = (let above = e.above t a in omega (arith, above, lead))
+    over_serial So t u differ a b lead = (let above = e.above t a in omega (arith, above, lead))
+    over_serial Rt t u differ a b lead = (let above = e.above t a in omega (arith, above, lead))
+
+    -- the step at i leads to a later start
+    later : (i u : ℕ) → i < length steps → (step_at steps i).to ≡ u → IsTrue (x.committed u)
+        → x.start (step_at steps i).from < x.start u
+    later i u lt to is =
+        let s = step_at steps i in
+        let P : ℕ → Type 0 = λ q. IsTrue (x.committed q) → x.start s.from < x.start q in
+        subst P to (λ live. over_serial s.edge s.from s.to (two s (there i lt)) (all s (there i lt)).0 live
+        ((all s (there i lt)).1 live)) is
+
+    climbs : (j : ℕ) → j < length steps → x.start (step_at steps 0).from ≤ x.start (step_at steps j).from
+    climbs zero lt = omega arith
+    climbs (suc j) lt =
+        let P : ℕ → Type 0 = λ z. x.start (step_at steps 0).from ≤ x.start (step_at steps z).from in
+        let same : j + 1 ≡ suc j = omega arith in
+        let more : j + 1 < length steps = omega (arith, lt) in
+        let before = climbs j (omega (arith, lt)) in
+        let next = later j (step_at steps (j + 1)).from (omega (arith, lt)) (round.1 j more)
+        (all (step_at steps (j + 1)) (there (j + 1) more)).0 in
+        subst P same (omega (arith, before, next))
+
+    serial_never : ⊥
+    serial_never =
+        let some = round.0 in
+        let end : length steps - 1 < length steps = omega (arith, some) in
+        let first : 0 < length steps = omega (arith, some) in
+        let up = climbs (length steps - 1) end in
+        let back = later (length steps - 1) (step_at steps 0).from end round.2
+        (all (step_at steps 0) (there 0 first)).0 in
+        omega (arith, up, back)
+
+  pub none_goes_round : (level : Level) → (level ≡ Serializable → IsSerial x) → (steps : List CycleStep)
+      → ((s : CycleStep) → Contains steps s → IsHeld x s) → AreRound steps → Forbids level steps → ⊥
+  none_goes_round Snapshot serial steps all round apart = apart_never steps all round apart
+  none_goes_round Serializable serial steps all round two = serial_never (serial refl) steps all round two
+
 -- a step that is so by the recording is held
 pub step_held : (r : Recording) (table : List (Option Owner)) → AreOwners r table → (orders : Orders)
     (x : Explanation) → Explains r orders x → (s : CycleStep) → IsStep r orders s → IsHeld x s
@@ -196,8 +254,9 @@ step_held r table owners orders x e s is =
     (from, leads r table owners orders x e s.edge s.from s.to s.key is from)
 
 -- such steps refuse each explanation
-pub refused_by : (r : Recording) (table : List (Option Owner)) → AreOwners r table → (orders : Orders)
+pub refused_by : (r : Recording) (table : List (Option Owner)) → AreOwners r table → (asked : Question)
     (steps : List CycleStep)
-    → AreSteps r orders steps → AreRound steps → AreApart steps → IsRefused r orders
-refused_by r table owners orders steps all round apart x e = none_goes_round r table owners orders x e steps
-    (λ s there. step_held r table owners orders x e s (all s there)) round apart
+    → AreSteps r asked.orders steps → AreRound steps → Forbids asked.level steps → IsRefused r asked
+refused_by r table owners asked steps all round forbids x (e, serial) =
+    none_goes_round r table owners asked.orders x e asked.level serial steps
+    (λ s there. step_held r table owners asked.orders x e s (all s there)) round forbids

@@ -3,21 +3,23 @@ use Rattle.std.proofs.Common.{◌≡◌, ◌⊎◌, ℕ, ◌+◌, ◌-◌, ◌*�
 use Rattle.std.proofs.lemmas.Bool.{cases_lt, false≢true}
 use Rattle.std.proofs.lemmas.List.{get_or_past}
 use Rattle.tx_recording.specs.declared.recording.Outcome.TheVariants.{Ok as Committed, Fail as Failed}
-use Rattle.tx_recording.specs.declared.recording.Orders.{Orders}
 use Rattle.tx_recording.specs.declared.recording.Transaction.{Transaction}
 use Rattle.tx_recording.specs.declared.recording.Recording.{Recording}
 use Rattle.tx_recording.specs.Recordings.{txns_of, transaction_at, no_transaction, ops_of}
-use Rattle.tx_recording.specs.Explanations.{after, IsPut, Explanation, Explains, Precedes}
+use Rattle.tx_recording.specs.Explanations.{after, IsPut, Precedes}
 use Rattle.tx_views.specs.declared.view.View.{View}
 use Rattle.tx_views.specs.Views.{AreViews}
 use Rattle.tx_history.specs.declared.recorded.Read.{Read}
 use Rattle.tx_history.specs.Histories.{History, HasVersion, IsAssignment}
 use Rattle.tx_history.specs.Records.{history_of, writers_of}
+use Rattle.tx_verdict.specs.declared.question.Level.TheVariants.{Serializable}
+use Rattle.tx_verdict.specs.declared.question.Question.{Question}
 use Rattle.tx_verdict.specs.declared.versions.Versions.{Versions}
 use Rattle.tx_verdict.specs.declared.verdict.Timestamps.{Timestamps}
 use Rattle.tx_verdict.specs.Versions.{text_of, live_of, IsKeyFit, IsPlaced, IsViewFit}
-use Rattle.tx_verdict.specs.Fits.{IsFit, last_by}
+use Rattle.tx_verdict.specs.Fits.{IsFit, AreInTurn, last_by}
 use Rattle.tx_verdict.specs.Forced.{AreForced, IsChain, IsReadForced, key_of}
+use Rattle.tx_verdict.specs.Questions.{ExplainsAt}
 use Rattle.tx_verdict.specs.Verdicts.{AreTimestampsOf}
 use Rattle.tx_verdict.proofs.Fits.{explains_so}
 use Rattle.tx_clock.specs.KeptOrder.{KeepsPairs}
@@ -73,34 +75,35 @@ forced_of r v chains reads = record {
   readers = λ p is. (reads p is).0;
 }
 
-pub timestamps_of : (r : Recording) (orders : Orders) (views : List View) (v : Versions) (starts commits : List ℕ)
+pub timestamps_of : (r : Recording) (asked : Question) (views : List View) (v : Versions) (starts commits : List ℕ)
     (t : Timestamps)
     → t.committed.items ≡ v.live.items → t.starts.items ≡ starts → t.commits.items ≡ commits → AreViews r views
     → IsFit r views (history_of v.recorded) (live_of v) (text_of v)
     → IsAssignment (history_of v.recorded) (slice_index starts) (slice_index commits)
-    → KeepsPairs (Precedes r orders) v.live.items starts commits → AreTimestampsOf r orders t
-timestamps_of r orders views v starts commits t live_is starts_is commits_is seen fit a keeps =
+    → KeepsPairs (Precedes r asked.orders) v.live.items starts commits
+    → (asked.level ≡ Serializable → AreInTurn v.live.items starts commits) → AreTimestampsOf r asked t
+timestamps_of r asked views v starts commits t live_is starts_is commits_is seen fit a keeps serial =
     let left : ℕ → ℕ → List ℕ =
     λ u k. text_of v k (last_by ((history_of v.recorded).writer k) ((history_of v.recorded).count k) u) in
-    let so = explains_so r orders views (history_of v.recorded) (live_of v) (text_of v) (slice_index starts)
+    let so = explains_so r asked.orders views (history_of v.recorded) (live_of v) (text_of v) (slice_index starts)
     (slice_index commits) seen fit a
     keeps in
-    let P : List Bool → Type 0 = λ z. Explains r orders record {
+    let P : List Bool → Type 0 = λ z. ExplainsAt r asked record {
       committed = λ i. slice_index_or z i false;
       start = slice_index starts;
       commit = slice_index commits;
       left = left;
     } in
-    let Q : List ℕ → Type 0 = λ z. Explains r orders record {
+    let Q : List ℕ → Type 0 = λ z. ExplainsAt r asked record {
       committed = λ i. slice_index_or t.committed.items i false;
       start = slice_index z;
       commit = slice_index commits;
       left = left;
     } in
-    let R : List ℕ → Type 0 = λ z. Explains r orders record {
+    let R : List ℕ → Type 0 = λ z. ExplainsAt r asked record {
       committed = λ i. slice_index_or t.committed.items i false;
       start = slice_index t.starts.items;
       commit = slice_index z;
       left = left;
     } in
-    (left, subst R (sym commits_is) (subst Q (sym starts_is) (subst P (sym live_is) so)))
+    (left, subst R (sym commits_is) (subst Q (sym starts_is) (subst P (sym live_is) (so, serial))))

@@ -4,8 +4,8 @@ use Rattle.tx_verdict.specs.declared.verdict.Edge.{Edge}
 use Rattle.tx_verdict.specs.declared.verdict.Edge.TheVariants.{Wr, Rw}
 use Rattle.tx_verdict.specs.declared.verdict.CycleStep.{CycleStep}
 use Rattle.tx_verdict.specs.declared.anomaly.Anomaly.{Anomaly}
-use Rattle.tx_verdict.specs.declared.anomaly.Anomaly.TheVariants.{G0, G1c, LostUpdate, GSingle, LongFork, GNonadjacent}
-use Rattle.tx_verdict.specs.Steps.{step_at}
+use Rattle.tx_verdict.specs.declared.anomaly.Anomaly.TheVariants.{G0, G1c, LostUpdate, GSingle, LongFork, GNonadjacent, G2Item}
+use Rattle.tx_verdict.specs.Steps.{AreApart, step_at}
 
 abbrev pub is_rw_edge : Edge → Bool
 is_rw_edge Rw = true
@@ -37,12 +37,13 @@ AreOfOneKey steps = (length steps ≡ 2) × ((step_at steps 0).key ≡ (step_at 
 abbrev pub IsFork : List CycleStep → Type 0
 IsFork steps = (skews_of steps ≡ 2) × (reads_of steps ≡ 2) × (length steps ≡ 4)
 
--- No anti-dependency, and no read; none, and a read; one, in two steps of one key; one, not so;
--- two, and two reads beside them; two or more, not so.
+-- No anti-dependency, and no read; none, and a read; one, in two steps of one key; one, not so; of
+-- more, no two of them neighbours, two and two reads beside them, and others; and two neighbours.
 abbrev pub IsNamed : List CycleStep → Anomaly → Type 0
 IsNamed steps G0 = (skews_of steps ≡ 0) × (reads_of steps ≡ 0)
 IsNamed steps G1c = (skews_of steps ≡ 0) × (1 ≤ reads_of steps)
 IsNamed steps LostUpdate = (skews_of steps ≡ 1) × AreOfOneKey steps
 IsNamed steps GSingle = (skews_of steps ≡ 1) × (AreOfOneKey steps → ⊥)
-IsNamed steps LongFork = IsFork steps
-IsNamed steps GNonadjacent = (2 ≤ skews_of steps) × (IsFork steps → ⊥)
+IsNamed steps LongFork = AreApart steps × IsFork steps
+IsNamed steps GNonadjacent = AreApart steps × (2 ≤ skews_of steps) × (IsFork steps → ⊥)
+IsNamed steps G2Item = (2 ≤ skews_of steps) × (AreApart steps → ⊥)

@@ -2,6 +2,7 @@ pub mod Facts
 pub mod Fits
 pub mod Forced
 pub mod Pairs
+pub mod Questions
 pub mod Reasons
 pub mod Refutations
 pub mod Steps

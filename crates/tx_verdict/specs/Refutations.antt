@@ -3,6 +3,7 @@
 use Rattle.std.specs.Prelude.{◌≡◌, ◌≢◌, ◌⊎◌, ℕ, ◌+◌, ◌<◌, ◌≤◌, List, [], ◌∷◌, ◌++◌, Contains, Option, Some, slice_get, slice_index}
 use Rattle.tx_recording.specs.declared.recording.Orders.{Orders}
 use Rattle.tx_recording.specs.declared.recording.Recording.{Recording}
+use Rattle.tx_verdict.specs.declared.question.Question.{Question}
 use Rattle.tx_verdict.specs.declared.verdict.Edge.{Edge}
 use Rattle.tx_verdict.specs.declared.verdict.Edge.TheVariants.{Ww, Rw}
 use Rattle.tx_verdict.specs.declared.verdict.CycleStep.{CycleStep}
@@ -12,7 +13,7 @@ use Rattle.tx_verdict.specs.declared.refutation.Hint.{Hint}
 use Rattle.tx_verdict.specs.declared.refutation.Lemma.{Lemma}
 use Rattle.tx_verdict.specs.declared.refutation.Refutation.{Refutation}
 use Rattle.tx_verdict.specs.Reasons.{SawOf, HasWritten, IsNext}
-use Rattle.tx_verdict.specs.Steps.{IsEdgeOf, AreRound, AreApart}
+use Rattle.tx_verdict.specs.Steps.{IsEdgeOf, AreRound, Forbids}
 
 -- two that wrote the key
 abbrev pub IsOrder : Recording → Order → Type 0
@@ -55,13 +56,13 @@ IsStepBy r orders known s = IsEdgeOf r orders s.edge s.from s.to s.key
 abbrev pub AreStepsBy : Recording → Orders → List Order → List CycleStep → Type 0
 AreStepsBy r orders known steps = (s : CycleStep) → Contains steps s → IsStepBy r orders known s
 
--- the steps are so, go round, and no two anti-dependencies are neighbours
-abbrev pub IsRoundBy : Recording → Orders → List Order → List CycleStep → Type 0
-IsRoundBy r orders known steps = AreRound steps × AreApart steps × AreStepsBy r orders known steps
+-- the steps are so, and go round, as the level that is asked for forbids
+abbrev pub IsRoundBy : Recording → Question → List Order → List CycleStep → Type 0
+IsRoundBy r asked known steps = AreRound steps × Forbids asked.level steps × AreStepsBy r asked.orders known steps
 
 -- with the opposite order, what is known closes a round
-abbrev pub IsSettledBy : Recording → Orders → List Order → Settled → Type 0
-IsSettledBy r orders known f = IsOrder r f.order × IsRoundBy r orders (known ++ opposite f.order ∷ []) f.round.items
+abbrev pub IsSettledBy : Recording → Question → List Order → Settled → Type 0
+IsSettledBy r asked known f = IsOrder r f.order × IsRoundBy r asked (known ++ opposite f.order ∷ []) f.round.items
 
 -- of the clause all orders but this one are known to be the other way round
 abbrev pub IsUnit : List Order → List Order → Order → Type 0
@@ -72,38 +73,38 @@ abbrev pub IsUnitOf : List Lemma → List Order → Hint → Type 0
 IsUnitOf lemmas known h = (l : Lemma) × (slice_get lemmas h.lemma ≡ Some l) × IsUnit known l.clause.items h.order
 
 -- with what is left of the clauses of lemmas, one after the other, what is known closes a round
-abbrev pub ClosesBy : Recording → Orders → List Lemma → List Order → List Hint → List CycleStep → Type 0
-ClosesBy r orders lemmas known [] round = IsRoundBy r orders known round
-ClosesBy r orders lemmas known (h ∷ hs) round = IsUnitOf lemmas known h
-    × ClosesBy r orders lemmas (known ++ h.order ∷ []) hs round
+abbrev pub ClosesBy : Recording → Question → List Lemma → List Order → List Hint → List CycleStep → Type 0
+ClosesBy r asked lemmas known [] round = IsRoundBy r asked known round
+ClosesBy r asked lemmas known (h ∷ hs) round = IsUnitOf lemmas known h
+    × ClosesBy r asked lemmas (known ++ h.order ∷ []) hs round
 
 -- it does with the opposites of all orders of a clause
-abbrev pub IsClauseBy : Recording → Orders → List Lemma → List Order → List Order → List Hint
+abbrev pub IsClauseBy : Recording → Question → List Lemma → List Order → List Order → List Hint
     → List CycleStep → Type 0
-IsClauseBy r orders lemmas known [] hints round = ClosesBy r orders lemmas known hints round
-IsClauseBy r orders lemmas known (o ∷ os) hints round = IsOrder r o
-    × IsClauseBy r orders lemmas (known ++ opposite o ∷ []) os hints round
+IsClauseBy r asked lemmas known [] hints round = ClosesBy r asked lemmas known hints round
+IsClauseBy r asked lemmas known (o ∷ os) hints round = IsOrder r o
+    × IsClauseBy r asked lemmas (known ++ opposite o ∷ []) os hints round
 
 -- so one of the clause's orders holds, by what is known and by the lemmas before
-abbrev pub IsLemmaBy : Recording → Orders → List Order → List Lemma → Lemma → Type 0
-IsLemmaBy r orders known before l =
-    IsClauseBy r orders before known l.clause.items l.hints.items l.round.items
+abbrev pub IsLemmaBy : Recording → Question → List Order → List Lemma → Lemma → Type 0
+IsLemmaBy r asked known before l =
+    IsClauseBy r asked before known l.clause.items l.hints.items l.round.items
 
 -- each lemma follows from those before it, and with them all the last round closes
-abbrev pub AreLemmasBy : Recording → Orders → List Order → List Lemma → List Lemma → List Hint
+abbrev pub AreLemmasBy : Recording → Question → List Order → List Lemma → List Lemma → List Hint
     → List CycleStep → Type 0
-AreLemmasBy r orders known before [] hints last = ClosesBy r orders before known hints last
-AreLemmasBy r orders known before (l ∷ ls) hints last = IsLemmaBy r orders known before l
-    × AreLemmasBy r orders known (before ++ l ∷ []) ls hints last
+AreLemmasBy r asked known before [] hints last = ClosesBy r asked before known hints last
+AreLemmasBy r asked known before (l ∷ ls) hints last = IsLemmaBy r asked known before l
+    × AreLemmasBy r asked known (before ++ l ∷ []) ls hints last
 
 -- each order is settled by what is known and by those before it, and with them all the lemmas
 -- follow and the last round closes
-abbrev pub IsRefutationBy : Recording → Orders → List Order → List Settled → Refutation → Type 0
-IsRefutationBy r orders known [] x = AreLemmasBy r orders known [] x.lemmas.items x.hints.items x.last.items
-IsRefutationBy r orders known (f ∷ fs) x = IsSettledBy r orders known f
-    × IsRefutationBy r orders (known ++ f.order ∷ []) fs x
+abbrev pub IsRefutationBy : Recording → Question → List Order → List Settled → Refutation → Type 0
+IsRefutationBy r asked known [] x = AreLemmasBy r asked known [] x.lemmas.items x.hints.items x.last.items
+IsRefutationBy r asked known (f ∷ fs) x = IsSettledBy r asked known f
+    × IsRefutationBy r asked (known ++ f.order ∷ []) fs x
 
 -- each order is settled by those before it, each lemma follows from them and from the lemmas before
 -- it, and with them all the last round closes
-abbrev pub IsRefutation : Recording → Orders → Refutation → Type 0
-IsRefutation r orders x = IsRefutationBy r orders [] x.facts.items x
+abbrev pub IsRefutation : Recording → Question → Refutation → Type 0
+IsRefutation r asked x = IsRefutationBy r asked [] x.facts.items x

@@ -1,5 +1,7 @@
 -- What the steps of a cycle say.
 use Rattle.std.specs.Prelude.{◌≡◌, ◌≢◌, ℕ, ◌+◌, ◌-◌, ◌<◌, ◌≤◌, List, length, Contains, Option, Some, None, IsTrue, slice_index_or}
+use Rattle.tx_verdict.specs.declared.question.Level.{Level}
+use Rattle.tx_verdict.specs.declared.question.Level.TheVariants.{Snapshot, Serializable}
 use Rattle.tx_recording.specs.declared.recording.Orders.{Orders}
 use Rattle.tx_recording.specs.declared.recording.Recording.{Recording}
 use Rattle.tx_recording.specs.Explanations.{IsSession, IsEarlier}
@@ -49,6 +51,16 @@ AreRound steps = (1 ≤ length steps)
 abbrev pub AreApart : List CycleStep → Type 0
 AreApart steps = ((i : ℕ) → i + 1 < length steps → (step_at steps i).edge ≡ Rw → (step_at steps (i + 1)).edge ≡ Rw → ⊥)
     × ((step_at steps (length steps - 1)).edge ≡ Rw → (step_at steps 0).edge ≡ Rw → ⊥)
+
+-- each leads from one transaction to another
+abbrev pub AreOfTwo : List CycleStep → Type 0
+AreOfTwo steps = (s : CycleStep) → Contains steps s → s.from ≢ s.to
+
+-- The level has no round of these steps: under snapshot isolation where no two neighbours are
+-- anti-dependencies; in a serial execution always, where each joins two.
+abbrev pub Forbids : Level → List CycleStep → Type 0
+Forbids Snapshot steps = AreApart steps
+Forbids Serializable steps = AreOfTwo steps
 
 -- one of the steps is of that kind
 abbrev pub HasStep : List CycleStep → Edge → Type 0

@@ -1,7 +1,8 @@
 //! The names of cycles.
-ghost use Rattle.std.specs.Prelude.{◌≡◌, ◌↔◌, Option, IsTrue};
-ghost use Rattle.tx_verdict.specs.Anomalies.{IsNamed, is_rw, is_wr};
+ghost use Rattle.std.specs.Prelude.{◌≡◌, ◌≤◌, ◌↔◌, Option, IsTrue};
+ghost use Rattle.tx_verdict.specs.Anomalies.{IsNamed, is_rw, is_wr, skews_of, reads_of};
 
+use crate::steps::are_apart;
 use crate::verdict::{CycleStep, Edge};
 
 /// The anomaly of a cycle, by Adya's names.
@@ -17,8 +18,10 @@ pub enum Anomaly {
     GSingle,
     /// Two readers saw two writes in two orders.
     LongFork,
-    /// Two or more anti-dependencies.
+    /// Two or more anti-dependencies, no two of them one after the other.
     GNonadjacent,
+    /// Two anti-dependencies one after the other, as in a write skew.
+    G2Item,
 }
 
 // Whether it is an anti-dependency.
@@ -52,6 +55,22 @@ fn is_same(one: Option<u32>, other: Option<u32>) -> bool
     }
 }
 
+// The name where there are so many anti-dependencies, two or more, and so many reads.
+fn name_of_many(steps: &[CycleStep], rw: usize, wr: usize) -> Anomaly
+    requires skews { skews_of steps.now ≡ rw }
+    requires reads { reads_of steps.now ≡ wr }
+    requires many { 2 ≤ rw }
+    ensures { IsNamed steps.now result }
+{
+    if !are_apart(steps) {
+        return Anomaly::G2Item;
+    }
+    if rw == 2 && wr == 2 && steps.len() == 4 {
+        return Anomaly::LongFork;
+    }
+    Anomaly::GNonadjacent
+}
+
 /// The name of the anomaly that a cycle of these steps is.
 pub(crate) fn anomaly_of(steps: &[CycleStep]) -> Anomaly
     ensures { IsNamed steps.now result }
@@ -67,8 +86,5 @@ pub(crate) fn anomaly_of(steps: &[CycleStep]) -> Anomaly
         }
         return Anomaly::GSingle;
     }
-    if rw == 2 && wr == 2 && steps.len() == 4 {
-        return Anomaly::LongFork;
-    }
-    Anomaly::GNonadjacent
+    name_of_many(steps, rw, wr)
 }

@@ -12,13 +12,15 @@ ghost use Rattle.tx_verdict.specs.Verdicts.{IsRefused, AreTimestampsOf};
 use crate::anomaly::anomaly_of;
 use crate::fit::is_fit;
 use crate::forced::is_forced;
-use crate::steps::{are_apart, beside_of, is_round, steps_of};
+use crate::question::Question;
+use crate::serial::keeps_level;
+use crate::steps::{beside_of, forbids, is_round, steps_of};
 use crate::verdict::{Cycle, Timestamps};
 use crate::versions::Versions;
 use std::alloc::{AllocError, Global};
 use tx_clock::keeps_orders;
 use tx_history::dependencies;
-use tx_recording::{Orders, Recording};
+use tx_recording::Recording;
 use tx_views::{Owner, View};
 
 /// What the timestamps of versions are for the recording, if they are.
@@ -26,7 +28,7 @@ pub fn timestamps(
     alloc: Global,
     recording: &Recording,
     views: &[View],
-    orders: Orders,
+    question: Question,
     versions: Versions,
     starts: Vec<usize>,
     commits: Vec<usize>,
@@ -36,7 +38,7 @@ pub fn timestamps(
     requires history { IsRecorded versions.recorded }
     requires assigned { IsAssignment (history_of versions.recorded) (slice_index starts.items)
         (slice_index commits.items) }
-    ensures { IfOk result (λ found. IfSome found (AreTimestampsOf recording.now orders)) }
+    ensures { IfOk result (λ found. IfSome found (AreTimestampsOf recording.now question)) }
 {
     if !is_fit(alloc, recording, views, &versions)? {
         return Ok(None);
@@ -45,11 +47,15 @@ pub fn timestamps(
     if !keeps_orders(
         alloc,
         recording,
-        orders,
+        question.orders,
         live,
         starts.as_slice(),
         commits.as_slice(),
     )? {
+        return Ok(None);
+    }
+    let level = question.level;
+    if !keeps_level(alloc, level, live, starts.as_slice(), commits.as_slice())? {
         return Ok(None);
     }
     Ok(Some(Timestamps {
@@ -65,7 +71,7 @@ pub fn cycle_of(
     recording: &Recording,
     owners: &[Option<Owner>],
     views: &[View],
-    orders: Orders,
+    question: Question,
     versions: &Versions,
     nodes: &[u32],
 ) -> Result<Option<Cycle>, AllocError>
@@ -74,18 +80,18 @@ pub fn cycle_of(
     requires views { AreViews recording.now views.now }
     requires history { IsRecorded versions.now.recorded }
     requires cycle { IsCycleOf (history_of versions.now.recorded) nodes.now }
-    ensures refused { IfOk result (λ found. IfSome found (λ cycle. IsRefused recording.now orders)) }
-    ensures cycle { IfOk result (λ found. IfSome found (IsCycleFor recording.now orders)) }
+    ensures refused { IfOk result (λ found. IfSome found (λ cycle. IsRefused recording.now question)) }
+    ensures cycle { IfOk result (λ found. IfSome found (IsCycleFor recording.now question)) }
 {
     if !is_forced(alloc, recording, owners, views, versions)? {
         return Ok(None);
     }
     let found = dependencies(alloc, &versions.recorded, nodes)?;
-    let steps = steps_of(alloc, recording, versions, orders, found.as_slice())?;
+    let steps = steps_of(alloc, recording, versions, question, found.as_slice())?;
     if !is_round(steps.as_slice()) {
         return Ok(None);
     }
-    if !are_apart(steps.as_slice()) {
+    if !forbids(question.level, steps.as_slice()) {
         return Ok(None);
     }
     let beside = beside_of(steps.as_slice());

@@ -1,4 +1,4 @@
-//! Clauses of orders, each of which follows from those before it.
+//! Clauses of question, each of which follows from those before it.
 ghost use Rattle.std.specs.Prelude.{◌≡◌, ◌⊎◌, ◌++◌, ◌∷◌, [], Contains, OnOk, IfOk, IsTrue, take};
 ghost use Rattle.tx_recording.specs.Recordings.{IsRecording};
 ghost use Rattle.tx_views.specs.declared.view.View.{View};
@@ -8,12 +8,13 @@ ghost use Rattle.tx_history.specs.Records.{IsRecorded};
 ghost use Rattle.tx_verdict.specs.Refutations.{IsOrder, opposite, IsUnit, IsUnitOf, ClosesBy, IsLemmaBy, AreLemmasBy};
 
 use crate::ground::Ground;
+use crate::question::Question;
 use crate::refutation::{Hint, Lemma, Order, is_round_by};
 use crate::stretch::has_written;
 use crate::verdict::CycleStep;
 use crate::versions::Versions;
 use std::alloc::{AllocError, Global};
-use tx_recording::{Orders, Recording};
+use tx_recording::Recording;
 use tx_views::{Owner, View};
 
 // The order the other way round.
@@ -79,7 +80,7 @@ fn closes_by(
     owners: &[Option<Owner>],
     views: &[View],
     versions: &Versions,
-    orders: Orders,
+    question: Question,
     lemmas: &[Lemma],
     known: &mut Vec<Order>,
     hints: &[Hint],
@@ -91,7 +92,7 @@ fn closes_by(
     requires views { (v : View) → Contains views.now v → IsViewOf recording.now v }
     requires history { IsRecorded versions.now.recorded }
     ensures { IfOk result (λ is. IsTrue is
-        → ClosesBy recording.now orders lemmas.now known.old.items hints.now steps.now) }
+        → ClosesBy recording.now question lemmas.now known.old.items hints.now steps.now) }
 {
     for i in 0..hints.len() {
         if !is_left(lemmas, known.as_slice(), hints[i]) {
@@ -105,7 +106,7 @@ fn closes_by(
         owners,
         views,
         versions,
-        orders,
+        question,
         known.as_slice(),
         steps,
         grounds,
@@ -142,7 +143,7 @@ fn is_lemma(
     owners: &[Option<Owner>],
     views: &[View],
     versions: &Versions,
-    orders: Orders,
+    question: Question,
     known: &[Order],
     before: &[Lemma],
     lemma: &Lemma,
@@ -151,7 +152,7 @@ fn is_lemma(
     requires owners { AreOwners recording.now owners.now }
     requires views { (v : View) → Contains views.now v → IsViewOf recording.now v }
     requires history { IsRecorded versions.now.recorded }
-    ensures { IfOk result (λ is. IsTrue is → IsLemmaBy recording.now orders known.now before.now lemma.now) }
+    ensures { IfOk result (λ is. IsTrue is → IsLemmaBy recording.now question known.now before.now lemma.now) }
 {
     let clause = lemma.clause.as_slice();
     let mut all = Vec::new(alloc);
@@ -168,7 +169,7 @@ fn is_lemma(
         owners,
         views,
         versions,
-        orders,
+        question,
         before,
         &mut all,
         lemma.hints.as_slice(),
@@ -186,7 +187,7 @@ pub(crate) fn are_lemmas(
     owners: &[Option<Owner>],
     views: &[View],
     versions: &Versions,
-    orders: Orders,
+    question: Question,
     known: &[Order],
     lemmas: &[Lemma],
     hints: &[Hint],
@@ -198,12 +199,12 @@ pub(crate) fn are_lemmas(
     requires views { (v : View) → Contains views.now v → IsViewOf recording.now v }
     requires history { IsRecorded versions.now.recorded }
     ensures { IfOk result (λ is. IsTrue is
-        → AreLemmasBy recording.now orders known.now [] lemmas.now hints.now last.now) }
+        → AreLemmasBy recording.now question known.now [] lemmas.now hints.now last.now) }
 {
     for i in 0..lemmas.len() {
         let before = &lemmas[..i];
         if !is_lemma(
-            alloc, recording, owners, views, versions, orders, known, before, &lemmas[i],
+            alloc, recording, owners, views, versions, question, known, before, &lemmas[i],
         )? {
             return Ok(false);
         }
@@ -211,7 +212,7 @@ pub(crate) fn are_lemmas(
     let mut all = Vec::new(alloc);
     all.extend_from_slice(known)?;
     let closes = closes_by(
-        alloc, recording, owners, views, versions, orders, lemmas, &mut all, hints, last, grounds,
+        alloc, recording, owners, views, versions, question, lemmas, &mut all, hints, last, grounds,
     )?;
     Ok(closes)
 }

@@ -10,12 +10,13 @@ ghost use Rattle.tx_verdict.specs.Refutations.{IsRoundBy, IsSettledBy, IsRefutat
 
 use crate::ground::{Ground, is_step_by};
 use crate::lemma::are_lemmas;
-use crate::steps::{are_apart, is_round};
+use crate::question::Question;
+use crate::steps::{forbids, is_round};
 use crate::stretch::has_written;
 use crate::verdict::CycleStep;
 use crate::versions::Versions;
 use std::alloc::{AllocError, Global};
-use tx_recording::{Orders, Recording};
+use tx_recording::Recording;
 use tx_views::{Owner, View};
 
 /// Of two that wrote a key, the first wrote it before the second.
@@ -67,14 +68,14 @@ pub struct Refutation {
     pub grounds: Vec<Ground>,
 }
 
-/// Whether steps go round, no two anti-dependencies one after the other, each on its ground.
+/// Whether steps go round, as the level that is asked for forbids, each on its ground.
 pub(crate) fn is_round_by(
     alloc: Global,
     recording: &Recording,
     owners: &[Option<Owner>],
     views: &[View],
     versions: &Versions,
-    orders: Orders,
+    question: Question,
     known: &[Order],
     steps: &[CycleStep],
     grounds: &[Ground],
@@ -83,12 +84,12 @@ pub(crate) fn is_round_by(
     requires owners { AreOwners recording.now owners.now }
     requires views { (v : View) → Contains views.now v → IsViewOf recording.now v }
     requires history { IsRecorded versions.now.recorded }
-    ensures { IfOk result (λ is. IsTrue is → IsRoundBy recording.now orders known.now steps.now) }
+    ensures { IfOk result (λ is. IsTrue is → IsRoundBy recording.now question known.now steps.now) }
 {
     if !is_round(steps) {
         return Ok(false);
     }
-    if !are_apart(steps) {
+    if !forbids(question.level, steps) {
         return Ok(false);
     }
     if grounds.len() != steps.len() {
@@ -96,7 +97,15 @@ pub(crate) fn is_round_by(
     }
     for i in 0..steps.len() {
         if !is_step_by(
-            alloc, recording, owners, views, versions, orders, known, steps[i], grounds[i],
+            alloc,
+            recording,
+            owners,
+            views,
+            versions,
+            question.orders,
+            known,
+            steps[i],
+            grounds[i],
         )? {
             return Ok(false);
         }
@@ -111,7 +120,7 @@ fn is_settled(
     owners: &[Option<Owner>],
     views: &[View],
     versions: &Versions,
-    orders: Orders,
+    question: Question,
     known: &mut Vec<Order>,
     fact: &Settled,
 ) -> Result<bool, AllocError>
@@ -120,7 +129,7 @@ fn is_settled(
     requires views { (v : View) → Contains views.now v → IsViewOf recording.now v }
     requires history { IsRecorded versions.now.recorded }
     ensures { IfOk result (λ is. IsTrue is → (known.new.items ≡ known.old.items ++ fact.now.order ∷ [])
-        × IsSettledBy recording.now orders known.old.items fact.now) }
+        × IsSettledBy recording.now question known.old.items fact.now) }
 {
     let order = fact.order;
     if order.first == order.second {
@@ -144,7 +153,7 @@ fn is_settled(
         owners,
         views,
         versions,
-        orders,
+        question,
         known.as_slice(),
         fact.round.as_slice(),
         fact.grounds.as_slice(),
@@ -163,7 +172,7 @@ fn are_settled(
     owners: &[Option<Owner>],
     views: &[View],
     versions: &Versions,
-    orders: Orders,
+    question: Question,
     facts: &[Settled],
     refutation: &Refutation,
 ) -> Result<bool, AllocError>
@@ -171,12 +180,12 @@ fn are_settled(
     requires owners { AreOwners recording.now owners.now }
     requires views { (v : View) → Contains views.now v → IsViewOf recording.now v }
     requires history { IsRecorded versions.now.recorded }
-    ensures { IfOk result (λ is. IsTrue is → IsRefutationBy recording.now orders [] facts.now refutation.now) }
+    ensures { IfOk result (λ is. IsTrue is → IsRefutationBy recording.now question [] facts.now refutation.now) }
 {
     let mut known = Vec::new(alloc);
     for i in 0..facts.len() {
         if !is_settled(
-            alloc, recording, owners, views, versions, orders, &mut known, &facts[i],
+            alloc, recording, owners, views, versions, question, &mut known, &facts[i],
         )? {
             return Ok(false);
         }
@@ -187,7 +196,7 @@ fn are_settled(
         owners,
         views,
         versions,
-        orders,
+        question,
         known.as_slice(),
         refutation.lemmas.as_slice(),
         refutation.hints.as_slice(),
@@ -205,19 +214,19 @@ pub fn is_refutation(
     owners: &[Option<Owner>],
     views: &[View],
     versions: &Versions,
-    orders: Orders,
+    question: Question,
     refutation: &Refutation,
 ) -> Result<bool, AllocError>
     requires recording { IsRecording recording.now }
     requires owners { AreOwners recording.now owners.now }
     requires views { (v : View) → Contains views.now v → IsViewOf recording.now v }
     requires history { IsRecorded versions.now.recorded }
-    ensures refutation { IfOk result (λ is. IsTrue is → IsRefutation recording.now orders refutation.now) }
-    ensures refused { IfOk result (λ is. IsTrue is → IsRefused recording.now orders) }
+    ensures refutation { IfOk result (λ is. IsTrue is → IsRefutation recording.now question refutation.now) }
+    ensures refused { IfOk result (λ is. IsTrue is → IsRefused recording.now question) }
 {
     let facts = refutation.facts.as_slice();
     let is = are_settled(
-        alloc, recording, owners, views, versions, orders, facts, refutation,
+        alloc, recording, owners, views, versions, question, facts, refutation,
     )?;
     Ok(is)
 }

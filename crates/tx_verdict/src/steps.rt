@@ -3,13 +3,15 @@ ghost use Rattle.std.specs.Prelude.{◌≡◌, ◌≢◌, ◌⊎◌, ◌+◌, �
 ghost use Rattle.tx_recording.specs.declared.recording.Orders.{Orders};
 ghost use Rattle.tx_history.specs.declared.dependency.Dependency.{Dependency};
 ghost use Rattle.tx_history.specs.Dependencies.{Depends};
-ghost use Rattle.tx_history.specs.Records.{history_of};
+ghost use Rattle.tx_history.specs.Records.{IsRecorded, history_of};
 ghost use Rattle.tx_verdict.specs.declared.verdict.CycleStep.{CycleStep};
 ghost use Rattle.tx_verdict.specs.declared.verdict.Edge.TheVariants.{Rw, So, Rt};
 ghost use Rattle.tx_verdict.specs.Forced.{AreForced, key_of};
-ghost use Rattle.tx_verdict.specs.Steps.{IsEdgeFor, IsStep, AreSteps, AreRound, AreApart, HasStep, Needs};
+ghost use Rattle.tx_verdict.specs.Steps.{IsEdgeFor, IsStep, AreSteps, AreRound, AreApart, AreOfTwo, Forbids, HasStep, Needs};
 
+use crate::missed::anti_dependency;
 use crate::pairs::{is_earlier, is_session};
+use crate::question::{Level, Question};
 use crate::verdict::{Beside, CycleStep, Edge};
 use crate::versions::Versions;
 use std::alloc::{AllocError, Global};
@@ -101,18 +103,47 @@ pub(crate) fn step_in_time(
     })
 }
 
+// The step of two of which the first did not see what the second wrote, where these come one after
+// the other.
+fn step_missed(
+    recording: &Recording,
+    versions: &Versions,
+    question: Question,
+    from: u32,
+    to: u32,
+) -> Option<CycleStep>
+    requires history { IsRecorded versions.now.recorded }
+    requires forced { AreForced recording.now (history_of versions.now.recorded) (key_of versions.now) }
+    ensures { IfSome result (IsStep recording.now question.orders) }
+{
+    match question.level {
+        Level::Snapshot => None,
+        Level::Serializable => {
+            let found = anti_dependency(&versions.recorded, from, to)?;
+            step_of(recording, versions, question.orders, found)
+        }
+    }
+}
+
 // The step of two that come one after the other, straight or by moments of the clock.
 fn step_after(
     recording: &Recording,
-    orders: Orders,
+    versions: &Versions,
+    question: Question,
     dependency: Dependency,
     began: Option<u32>,
 ) -> Option<CycleStep>
-    ensures { IfSome result (IsStep recording.now orders) }
+    requires history { IsRecorded versions.now.recorded }
+    requires forced { AreForced recording.now (history_of versions.now.recorded) (key_of versions.now) }
+    ensures { IfSome result (IsStep recording.now question.orders) }
 {
-    match began {
-        Some(from) => step_in_time(recording, orders, from, dependency.to),
-        None => step_in_process(recording, orders, dependency.from, dependency.to),
+    let (from, to) = (dependency.from, dependency.to);
+    if let Some(from) = began {
+        return step_in_time(recording, question.orders, from, to);
+    }
+    match step_missed(recording, versions, question, from, to) {
+        Some(step) => Some(step),
+        None => step_in_process(recording, question.orders, from, to),
     }
 }
 
@@ -132,17 +163,20 @@ fn push_step(steps: &mut Vec<CycleStep>, step: Option<CycleStep>) -> Result<(), 
 fn add_after(
     steps: &mut Vec<CycleStep>,
     recording: &Recording,
-    orders: Orders,
+    versions: &Versions,
+    question: Question,
     dependency: Dependency,
     began: Option<u32>,
 ) -> Result<Option<u32>, AllocError>
-    requires { AreSteps recording.now orders steps.old.items }
-    ensures { OnOk result (AreSteps recording.now orders steps.new.items) }
+    requires history { IsRecorded versions.now.recorded }
+    requires forced { AreForced recording.now (history_of versions.now.recorded) (key_of versions.now) }
+    requires steps { AreSteps recording.now question.orders steps.old.items }
+    ensures { OnOk result (AreSteps recording.now question.orders steps.new.items) }
 {
     if dependency.to as usize >= recording.transactions.len() {
         return Ok(Some(began.unwrap_or(dependency.from)));
     }
-    let step = step_after(recording, orders, dependency, began);
+    let step = step_after(recording, versions, question, dependency, began);
     push_step(steps, step)?;
     Ok(None)
 }
@@ -152,21 +186,22 @@ fn add_step(
     steps: &mut Vec<CycleStep>,
     recording: &Recording,
     versions: &Versions,
-    orders: Orders,
+    question: Question,
     dependency: Dependency,
     began: Option<u32>,
 ) -> Result<Option<u32>, AllocError>
+    requires history { IsRecorded versions.now.recorded }
     requires forced { AreForced recording.now (history_of versions.now.recorded) (key_of versions.now) }
     requires holds { Depends (history_of versions.now.recorded) dependency.kind dependency.from
         dependency.to dependency.key dependency.version }
-    requires steps { AreSteps recording.now orders steps.old.items }
-    ensures { OnOk result (AreSteps recording.now orders steps.new.items) }
+    requires steps { AreSteps recording.now question.orders steps.old.items }
+    ensures { OnOk result (AreSteps recording.now question.orders steps.new.items) }
 {
     match dependency.kind {
         Kind::Own => Ok(began),
-        Kind::After => add_after(steps, recording, orders, dependency, began),
+        Kind::After => add_after(steps, recording, versions, question, dependency, began),
         Kind::Ww | Kind::Wr | Kind::Rw => {
-            let step = step_of(recording, versions, orders, dependency);
+            let step = step_of(recording, versions, question.orders, dependency);
             push_step(steps, step)?;
             Ok(None)
         }
@@ -200,20 +235,21 @@ pub(crate) fn steps_of(
     alloc: Global,
     recording: &Recording,
     versions: &Versions,
-    orders: Orders,
+    question: Question,
     found: &[Dependency],
 ) -> Result<Vec<CycleStep>, AllocError>
+    requires history { IsRecorded versions.now.recorded }
     requires forced { AreForced recording.now (history_of versions.now.recorded) (key_of versions.now) }
     requires hold { (d : Dependency) → Contains found.now d
         → Depends (history_of versions.now.recorded) d.kind d.from d.to d.key d.version }
-    ensures { IfOk result (λ steps. AreSteps recording.now orders steps.items) }
+    ensures { IfOk result (λ steps. AreSteps recording.now question.orders steps.items) }
 {
     let mut steps = Vec::new(alloc);
     let first = first_of(recording, found);
     let mut began = None;
     for i in 0..found.len() {
         let at = place_from(first, i, found.len());
-        began = add_step(&mut steps, recording, versions, orders, found[at], began)?;
+        began = add_step(&mut steps, recording, versions, question, found[at], began)?;
     }
     Ok(steps)
 }
@@ -236,7 +272,8 @@ pub(crate) fn is_round(steps: &[CycleStep]) -> bool
 
 // Whether two steps are anti-dependencies.
 fn are_skews(one: CycleStep, other: CycleStep) -> bool
-    ensures { result ≡ false → one.edge ≡ Rw → other.edge ≡ Rw → ⊥ }
+    ensures yes { IsTrue result → (one.edge ≡ Rw) × (other.edge ≡ Rw) }
+    ensures no { result ≡ false → one.edge ≡ Rw → other.edge ≡ Rw → ⊥ }
 {
     match one.edge {
         Edge::Rw => match other.edge {
@@ -249,11 +286,12 @@ fn are_skews(one: CycleStep, other: CycleStep) -> bool
 
 /// Whether no two steps one after the other are anti-dependencies, nor the last and the first.
 pub(crate) fn are_apart(steps: &[CycleStep]) -> bool
-    ensures { IsTrue result → AreApart steps.now }
+    ensures yes { IsTrue result → AreApart steps.now }
+    ensures no { result ≡ false → AreApart steps.now → ⊥ }
 {
     let count = steps.len();
     if count == 0 {
-        return false;
+        return true;
     }
     for i in 1..count {
         if are_skews(steps[i - 1], steps[i]) {
@@ -264,6 +302,28 @@ pub(crate) fn are_apart(steps: &[CycleStep]) -> bool
         return false;
     }
     true
+}
+
+// Whether each step leads from one transaction to another.
+fn are_of_two(steps: &[CycleStep]) -> bool
+    ensures { IsTrue result → AreOfTwo steps.now }
+{
+    for i in 0..steps.len() {
+        if steps[i].from == steps[i].to {
+            return false;
+        }
+    }
+    true
+}
+
+/// Whether a level has no round of these steps.
+pub(crate) fn forbids(level: Level, steps: &[CycleStep]) -> bool
+    ensures { IsTrue result → Forbids level steps.now }
+{
+    match level {
+        Level::Snapshot => are_apart(steps),
+        Level::Serializable => are_of_two(steps),
+    }
 }
 
 // Whether one of the steps is by the clock.

@@ -85,7 +85,7 @@ pub struct Fact {
     pub by: Option<u32>,
 }
 
-/// Whether a recording is snapshot isolation.
+/// Whether a recording is of the level that is asked for.
 #[derive(Debug, Drop)]
 pub enum Verdict {
     /// It is, under these timestamps.

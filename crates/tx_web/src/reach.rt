@@ -24,8 +24,8 @@ pub struct Found {
     pub behind: u32,
     /// How many were found in the rounds before.
     pub upto: u32,
-    /// Whether the one leads to the last version of the other from its start, else from its commit
-    /// to the readers.
+    /// Whether the one leads to the last version of the other from its start, else from where
+    /// anti-dependencies lead to it to the readers.
     pub by_start: bool,
 }
 
@@ -113,7 +113,7 @@ pub fn taken_of(alloc: Global, web: &Web, by_node: &Lists) -> Result<Taken, Allo
 #[derive(Clone, Copy)]
 enum Mark {
     FirstStart,
-    FirstCommit,
+    FirstWriter,
     LastCommit,
     Readers,
 }
@@ -130,7 +130,7 @@ fn bit_of(place: usize, mark: Mark) -> usize
 {
     let kind = match mark {
         Mark::FirstStart => 0,
-        Mark::FirstCommit => 1,
+        Mark::FirstWriter => 1,
         Mark::LastCommit => 2,
         Mark::Readers => 3,
     };
@@ -215,7 +215,7 @@ impl Marks {
         for i in 0..CHAINS {
             if let Some(chain) = loose.get(first.saturating_add(i)) {
                 self.set(start_of(chain.first), i, Mark::FirstStart);
-                self.set(commit_of(chain.first), i, Mark::FirstCommit);
+                self.set(web.writer_node(chain.first), i, Mark::FirstWriter);
                 self.set(commit_of(chain.last), i, Mark::LastCommit);
                 self.set(web.chain_node(chain.chain), i, Mark::Readers);
             }
@@ -247,12 +247,13 @@ impl Finds<'_> {
         let one = self.loose[before];
         let other = self.loose[behind];
         let by_start = marks.has(start_of(one.first), place, Mark::LastCommit);
-        if !by_start && !marks.has(commit_of(one.first), place, Mark::Readers) {
+        let writer = self.web.writer_node(one.first);
+        if !by_start && !marks.has(writer, place, Mark::Readers) {
             return Ok(());
         }
         let node = self.web.chain_node(one.chain);
         let lacks = !marks.has(commit_of(one.last), place, Mark::FirstStart);
-        let lacks_readers = one.read && !marks.has(node, place, Mark::FirstCommit);
+        let lacks_readers = one.read && !marks.has(node, place, Mark::FirstWriter);
         if !lacks && !lacks_readers {
             return Ok(());
         }
@@ -269,7 +270,7 @@ impl Finds<'_> {
                 .add(from, start_of(other.first), Why::Found(number_of))?;
         }
         if lacks_readers {
-            let to = commit_of(other.first);
+            let to = self.web.writer_node(other.first);
             self.web.add(node, to, Why::FoundPast(number_of))?;
         }
         Ok(())

@@ -205,5 +205,5 @@ pub fn ends_of(web: &Web, loose: &[Loose], found: Found) -> Option<(u32, u32)> {
     if found.by_start {
         return Some((start_of(before.first), commit_of(behind.last)));
     }
-    Some((commit_of(before.first), web.chain_node(behind.chain)))
+    Some((web.writer_node(before.first), web.chain_node(behind.chain)))
 }

@@ -4,7 +4,7 @@ ghost use Rattle.tx_history.specs.Records.{IsRecorded};
 use crate::lists::Lists;
 use std::alloc::{AllocError, Global};
 use tx_chains::{Extras, number};
-use tx_verdict::{Base, Behind, Ground, Versions};
+use tx_verdict::{Base, Behind, Ground, Level, Versions};
 
 /// Why an edge is there.
 #[derive(Clone, Copy)]
@@ -61,6 +61,7 @@ pub struct Loose {
 /// behind those who saw the last version of it.
 #[derive(Drop)]
 pub struct Web {
+    pub level: Level,
     pub txns: u32,
     pub nodes: u32,
     pub links: Vec<Link>,
@@ -80,6 +81,23 @@ impl Web {
     /// The node of a chain.
     pub fn chain_node(&self, chain: u32) -> u32 {
         number(2 * self.txns as usize + chain as usize)
+    }
+
+    /// Where an anti-dependency of one who did not see something begins: at the start, or in a
+    /// serial execution at the commit.
+    pub fn reader_node(&self, txn: u32) -> u32 {
+        match self.level {
+            Level::Snapshot => start_of(txn),
+            Level::Serializable => commit_of(txn),
+        }
+    }
+
+    /// Where it leads to, of who wrote that: the commit, or in a serial execution the start.
+    pub fn writer_node(&self, txn: u32) -> u32 {
+        match self.level {
+            Level::Snapshot => commit_of(txn),
+            Level::Serializable => start_of(txn),
+        }
     }
 
     /// Adds an edge, if its nodes are there.
@@ -178,12 +196,15 @@ fn add_view(web: &mut Web, versions: &Versions, view: usize) -> Result<(), Alloc
     }
     if version >= writers.len() {
         let node = web.chain_node(read.key);
-        return web.add(start_of(read.txn), node, Why::Reads(place));
+        let from = web.reader_node(read.txn);
+        return web.add(from, node, Why::Reads(place));
     }
     if writers[version] != read.txn {
         let ground = missed(versions, writers, place, read.key, read.version);
         let why = Why::Missed(key, ground);
-        web.add(start_of(read.txn), commit_of(writers[version]), why)?;
+        let from = web.reader_node(read.txn);
+        let to = web.writer_node(writers[version]);
+        web.add(from, to, why)?;
     }
     Ok(())
 }
@@ -195,7 +216,8 @@ fn add_loose(web: &mut Web, versions: &Versions, loose: Loose) -> Result<(), All
     let writers = versions.recorded.writers_of(loose.key as usize);
     let count = writers.len();
     let node = web.chain_node(loose.key);
-    web.add(node, commit_of(loose.first), Why::Past(loose.key))?;
+    let first = web.writer_node(loose.first);
+    web.add(node, first, Why::Past(loose.key))?;
     if count > 0 {
         let row = Behind::Row(loose.key, number(count));
         let from = commit_of(writers[count - 1]);
@@ -265,9 +287,10 @@ pub fn loose_chains(
 }
 
 /// The graph of a history of these chains, those of the keys first, and what holds in each order of
-/// the others.
+/// the others, at a level.
 pub fn web_of(
     alloc: Global,
+    level: Level,
     versions: &Versions,
     views: usize,
     loose: &[Loose],
@@ -276,6 +299,7 @@ pub fn web_of(
 {
     let txns = versions.recorded.txns;
     let mut web = Web {
+        level,
         txns,
         nodes: number(2 * txns as usize + versions.names.len().min(0x8000_0000)),
         links: Vec::new(alloc),

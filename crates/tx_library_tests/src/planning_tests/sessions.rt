@@ -9,8 +9,8 @@ use std::alloc::Global;
 use tx_cells::{Families, Makes};
 use tx_client::{Miss, Session};
 use tx_journal::{JournalId, Opened, Seat};
-use tx_simple::resolve_met;
 use tx_types::Ts;
+use tx_update::resolve_met;
 
 /// Which session, how its request is handled, what it does, and what it hears. Sessions have their
 /// numbers by the order in which they begin. What the region collects, and that its safe point is

@@ -1,11 +1,11 @@
 //! What becomes of a request on its way to a region, by the delivery that is set.
-ghost use Rattle.std.specs.Prelude.{◌⊎◌, string_bytes};
-ghost use Rattle.tx_journal.specs.Senders.{IsHeld};
+ghost use Rattle.std.specs.Prelude.{◌⊎◌, IfSome, IsSomeAnd, string_bytes};
+ghost use Rattle.tx_journal.specs.Senders.{IsHeld, reached};
 ghost use Rattle.tx_network.specs.Networks.{region_for, Twice, IsUntaken, HeldUnder, Passes};
 
 use super::{Network, keep};
 use tx_cells::Families;
-use tx_journal::{JournalId, Lost, Reply, Request, Sender};
+use tx_journal::{JournalId, Lost, Reply, ReplyTo, Request, Sender};
 use tx_steps::Delivery;
 use tx_types::Key;
 
@@ -24,6 +24,16 @@ impl<J: JournalId, F: Families> Sender<Request<J>, Reply<J>> for Network<J, F> {
             return Ok(self.take(request));
         }
         self.send_by_delivery(request)
+    }
+
+    fn send_in(&mut self, place: &mut Option<Reply<J>>) {
+        if let Some(Delivery::Taken) = &self.delivery {
+            if let Some(reply) = place {
+                self.take_in(reply);
+            }
+        } else {
+            self.send_in_by_delivery(place);
+        }
     }
 
     fn bounds(&self) -> &[Key] {
@@ -67,6 +77,21 @@ impl<J: JournalId, F: Families> Network<J, F> {
         match keep(&mut self.held, name, request) {
             Ok(()) => Err(Lost),
             Err(request) => Ok(self.refuse(request)),
+        }
+    }
+
+    // Sends the request of the reply at a place by the delivery that is set.
+    #[cold]
+    #[inline(never)]
+    fn send_in_by_delivery(&mut self, place: &mut Option<Reply<J>>)
+        requires { IsSomeAnd place.old (λ reply. IsHeld J.bounds reply.request.body) }
+        ensures { IfSome place.old
+            (λ reply. Passes J.bounds self.old.delivery self.old reply.request (reached place.new) self.new) }
+    {
+        if let Some(reply) = place.take() {
+            if let Ok(reply) = self.send_by_delivery(reply.into_request()) {
+                *place = Some(reply);
+            }
         }
     }
 

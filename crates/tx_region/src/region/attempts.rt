@@ -15,7 +15,7 @@ use super::events::note_done;
 use crate::attempt::{Attempt, Seen};
 use crate::copy::Loaded;
 use tx_cells::Families;
-use tx_journal::{AnswerWithLock, JournalId, Request, Told};
+use tx_journal::{AnswerWithLock, JournalId, Reply, Request, Told};
 use tx_spelling::KeyBytes;
 use tx_types::Fault;
 
@@ -29,18 +29,14 @@ fn forget<T: Drop>(place: &mut Option<T>)
 }
 
 impl<J: JournalId, F: Families> Region<J, F> {
-    /// As `copy_key`, into a try, which has no plan and no answer then, nor a copy where memory was
-    /// refused.
-    pub fn copy_into(
-        &mut self,
-        request: &mut Request<J>,
-        attempt: &mut Attempt<J>,
-    ) -> Result<(), Fault>
-        requires { IsOfKey request.old.body }
-        ensures request { request.new ≡ request.old }
+    /// As `copy_key`, for the request of a reply, into a try, which has no plan and no answer then,
+    /// nor a copy where memory was refused.
+    pub fn copy_into(&mut self, place: &mut Reply<J>, attempt: &mut Attempt<J>) -> Result<(), Fault>
+        requires { IsOfKey place.old.request.body }
+        ensures place { place.new ≡ place.old }
         ensures same { (self.new.seat ≡ self.old.seat) × (self.new.ticks ≡ self.old.ticks) }
         ensures seen { HasSeen J.bounds self.old.seat self.old.events self.new.events }
-        ensures copy { OnOk result (IsSomeAnd attempt.new.copy (λ copy. IsCopyFor request.old copy
+        ensures copy { OnOk result (IsSomeAnd attempt.new.copy (λ copy. IsCopyFor place.new.request copy
             × (copy.region ≡ self.new.seat) × (copy.events ≡ self.new.events))) }
         ensures empty { (attempt.new.plan ≡ None) × (attempt.new.answer ≡ None) }
         ensures none { OnErr result (attempt.new.copy ≡ None) }
@@ -49,10 +45,10 @@ impl<J: JournalId, F: Families> Region<J, F> {
         forget(&mut attempt.seen);
         forget(&mut attempt.planned);
         forget(&mut attempt.answer);
-        attempt.loaded = self.load(request);
-        let key = self.records.spell(request.body())?;
-        self.records
-            .view_into(&key, request.body(), &mut attempt.view)?;
+        attempt.loaded = self.load_in(place);
+        let body = place.body();
+        let key = self.records.spell(body)?;
+        self.records.view_into(&key, body, &mut attempt.view)?;
         let bytes = key.into_bytes();
         let told = self.seat.tell();
         attempt.region = self.seat.number();

@@ -37,7 +37,8 @@ const MET: Refusals = Refusals {
 const TOLD: &str = "1 KeyIsLocked, 0 WriteConflict, 0 AlreadyRolledBack, 0 TxnLockNotFound, \
     0 CommitTsExpired, 1 AlreadyExists, 0 BelowSafePoint";
 
-// What was refused in a run of the script; none where it was not played.
+// How many lines were told each refusal in a run of the script, where as many requests were refused
+// so; none where it was not played.
 fn refused<F: Fresh + Send + Drop, R: Threads + Wait + Sync + Send + Clone + Drop>(
     rt: &R,
     alloc: Global,
@@ -45,9 +46,13 @@ fn refused<F: Fresh + Send + Drop, R: Threads + Wait + Sync + Send + Clone + Dro
     let mut text = Vec::new(alloc);
     let refusals = match run::<F, R>(rt, alloc, Settings::new(1), SCRIPT.as_bytes(), &mut text) {
         Ok((_, Some(played))) => {
-            let refusals = played.refusals;
+            let (refusals, requests) = (played.refusals, played.requests);
             drop(played);
-            Some(refusals)
+            if refusals == requests {
+                Some(refusals)
+            } else {
+                None
+            }
         }
         Ok((_, None)) | Err(_) => None,
     };

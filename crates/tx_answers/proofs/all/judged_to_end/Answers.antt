@@ -1,4 +1,4 @@
-use Rattle.std.proofs.Common.{◌≡◌, ℕ, false, get_or, ap, subst}
+use Rattle.std.proofs.Common.{false, get_or, subst}
 use Rattle.tx_onward.specs.Left.{IsLeft}
 use Rattle.tx_answers.proofs.Onward.{done, more_so, nothing_told}
 use Rattle.tx_answers.proofs.all.judged_to_end.Goals as goal

@@ -1,6 +1,6 @@
 use Rattle.std.proofs.Common.{◌≡◌, ℕ, ◌<◌, List, ◌++◌, codes, ◌∷◌, [], length, map, ap, ◌∙◌, append_assoc, arith}
 use Rattle.json.specs.Print.{escape_byte}
-use Rattle.serde_json.specs.Data.{array, Items}
+use Rattle.serde_json.specs.Data.{array}
 use Rattle.serde_json.specs.View.{items_of}
 use Rattle.serde_json.specs.Written.{compact_text}
 use Rattle.tx_verdict.specs.declared.refutation.Lemma.{Lemma}

@@ -1,4 +1,5 @@
 use Rattle.std.proofs.Common.{◌≡◌, ℕ, List, Bor, map, ap, sym, subst, ◌∙◌}
+use Rattle.tx_types.specs.Keys.{AreRising}
 use Rattle.tx_text.specs.Lines.{lines_of}
 use Rattle.tx_evidence.specs.Lines.{bounds_of}
 use Rattle.tx_script.proofs.Ends.{if_some}
@@ -17,9 +18,12 @@ returns-clause-ends g c =
     let are : map now c.as_slice-4.result.now ≡ lines_of input = ap (map now) c.as_slice-4.ensures.value ∙ whole in
     let drawn : map now c.as_slice-6.result.now ≡ lines_of input = ap (map now) c.as_slice-6.ensures.value ∙ whole in
     let form = c.args.options.form in
+    let keys = c.as_slice-3.result.now in
     let film = c.in_ok-film.film in (
+      keys,
+      subst AreRising (sym c.as_slice-3.ensures.value) c.in_ok-keys.ensures.rising,
       film,
-      subst (λ ls. Films (bounds_of ls) ls film) are c.in_ok-film.ensures,
+      subst (λ ls. Films (bounds_of ls) keys ls film) are c.in_ok-film.ensures,
       c.end-end.ensures,
       (
         c.as_slice-7.result.now,

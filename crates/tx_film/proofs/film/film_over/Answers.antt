@@ -13,11 +13,12 @@ none = record { ref_ptr = (0, 0); now = [] }
 pub returns-in-Some : goal.returns-in-Some
 returns-in-Some g c =
     let bounds = g.J.JournalId.bounds in
+    let shown = c.args.keys.now in
     let xs = c.args.lines.now in
     let i = c.lines.line-index in
     let within : i < length xs = omega (arith, c.lines-test.true) in
     let stops = rw c.in-Some.is at c.in_ok-cause.ensures.stops in
-    let halted : Halted bounds (map now xs) c.film_line.new.frames.items c.film_line.new.player = record {
+    let halted : Halted bounds shown (map now xs) c.film_line.new.frames.items c.film_line.new.player = record {
       first = map now (take i xs);
       line = now (get_or xs i none);
       rest = map now (drop (i + 1) xs);
@@ -26,13 +27,15 @@ returns-in-Some g c =
       split = split_line now xs i none within;
       stops = stops (map now (take i xs)) c.lines.invariant.3;
     } in
-    if_ok_by _ (λ (film : FilmParts). Films c.args.opened.bounds (map now xs) film) c.film_of.result
-    (λ film made. subst (λ b. Films b (map now xs) film) (sym c.requires.named.1) (made (map now xs) halted))
+    if_ok_by _ (λ (film : FilmParts). Films c.args.opened.bounds shown (map now xs) film) c.film_of.result
+    (λ film made. subst (λ b. Films b shown (map now xs) film) (sym c.requires.named.1)
+    (made shown (map now xs) halted))
     c.film_of.ensures
 
 pub lines-preserved : goal.lines-preserved
 lines-preserved g c =
     let bounds = g.J.JournalId.bounds in
+    let shown = c.args.keys.now in
     let xs = c.args.lines.now in
     let i = c.lines.line-index in
     let within : i < length xs = omega (arith, c.lines-test.true) in
@@ -42,18 +45,20 @@ lines-preserved g c =
       c.in_ok-cause.ensures.player,
       tries,
       number,
-      subst (λ ls. HasFilmed bounds ls c.film_line.new.frames.items c.film_line.new.player)
+      subst (λ ls. HasFilmed bounds shown ls c.film_line.new.frames.items c.film_line.new.player)
           (sym (one_line now xs i none within)) (goes (map now (take i xs)) c.lines.invariant.3),
     )
 
 pub returns : goal.returns
 returns g c =
     let bounds = g.J.JournalId.bounds in
+    let shown = c.args.keys.now in
     let xs = c.args.lines.now in
     let i = c.lines.line-index in
-    let filmed : HasFilmed bounds (map now xs) c.lines.frames.items c.lines.player =
-    subst (λ ys. HasFilmed bounds (map now ys) c.lines.frames.items c.lines.player)
+    let filmed : HasFilmed bounds shown (map now xs) c.lines.frames.items c.lines.player =
+    subst (λ ys. HasFilmed bounds shown (map now ys) c.lines.frames.items c.lines.player)
     (take_all i xs (omega (arith, c.lines-test.false))) c.lines.invariant.3 in
-    if_ok_by _ (λ (film : FilmParts). Films c.args.opened.bounds (map now xs) film) c.film_of-2.result
-    (λ film made. subst (λ b. Films b (map now xs) film) (sym c.requires.named.1) (made (map now xs) filmed))
+    if_ok_by _ (λ (film : FilmParts). Films c.args.opened.bounds shown (map now xs) film) c.film_of-2.result
+    (λ film made. subst (λ b. Films b shown (map now xs) film) (sym c.requires.named.1)
+    (made shown (map now xs) filmed))
     c.film_of-2.ensures

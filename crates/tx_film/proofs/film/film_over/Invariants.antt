@@ -7,4 +7,4 @@ abbrev pub invariant-lines : goal.invariant-lines
 invariant-lines g l = IsPlayer g.J.JournalId.bounds l.player
     × (l.player.left + length l.frames.items ≡ 4294967295)
     × (l.player.number ≡ length l.frames.items)
-    × HasFilmed g.J.JournalId.bounds (map (λ line. line.now) (take l.line-index l.lines)) l.frames.items l.player
+    × HasFilmed g.J.JournalId.bounds l.keys (map (λ line. line.now) (take l.line-index l.lines)) l.frames.items l.player

@@ -8,14 +8,14 @@ pub returns-clause-elements : goal.returns-clause-elements
 returns-clause-elements c =
     let added = c.in_ok-put_values.ensures.said in
     let count = ap length added.1 ∙ length-append c.args.elements.now.items added.0 in
-    let many = zip_long (IsValueOf c.put_values.new.values c.args.key) added.0 c.args.names.now added.2 in
+    let many = zip_long (IsValueOf c.put_values.new.values c.args.key) added.0 c.args.found.now added.2 in
     omega (arith, count, many)
 
 pub returns-clause-upto : goal.returns-clause-upto
 returns-clause-upto c =
     let added = c.in_ok-put_values.ensures.said in
     let count = ap length added.1 ∙ length-append c.args.elements.now.items added.0 in
-    let many = zip_long (IsValueOf c.put_values.new.values c.args.key) added.0 c.args.names.now added.2 in
+    let many = zip_long (IsValueOf c.put_values.new.values c.args.key) added.0 c.args.found.now added.2 in
     let first : c.len-first.result ≡ length c.args.elements.now.items =
     grind (arith, common_steps, c.len-first.ensures) in
     omega (arith, count, many, first)
@@ -23,10 +23,10 @@ returns-clause-upto c =
 pub returns-clause-said : goal.returns-clause-said
 returns-clause-said c =
     let added = c.in_ok-put_values.ensures.said in
-    let many = zip_long (IsValueOf c.put_values.new.values c.args.key) added.0 c.args.names.now added.2 in
+    let many = zip_long (IsValueOf c.put_values.new.values c.args.key) added.0 c.args.found.now added.2 in
     let first : c.len-first.result ≡ length c.args.elements.now.items =
     grind (arith, common_steps, c.len-first.ensures) in
     let part = part_is c.put_values.new.elements.items c.args.elements.now.items added.0 c.len-first.result
-    (length c.args.names.now) added.1 first (sym many) in
-    let P : List ℕ → Type 0 = λ l. AreValuesOf c.put_values.new.values c.args.key l c.args.names.now in
+    (length c.args.found.now) added.1 first (sym many) in
+    let P : List ℕ → Type 0 = λ l. AreValuesOf c.put_values.new.values c.args.key l c.args.found.now in
     subst P (sym part) added.2

@@ -7,4 +7,4 @@ pub internal-requires-clause-internal : goal.internal-requires-clause-internal
 internal-requires-clause-internal c = subst (IsViewed c.args.recording.now) c.in-Internal.is c.requires.viewed
 
 pub returns-in-Internal : goal.returns-in-Internal
-returns-in-Internal c = (c.internal.ensures.0, c.internal.ensures.1 c.args.orders)
+returns-in-Internal c = c.internal.ensures

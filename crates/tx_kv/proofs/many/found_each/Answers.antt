@@ -4,7 +4,7 @@ use Rattle.tx_types.specs.declared.key.Key.{Key}
 use Rattle.tx_types.specs.declared.value.Value.{Value}
 use Rattle.tx_core.specs.Histories.{last}
 use Rattle.tx_reader.proofs.Observers.{sees_begins, sees_itself, sees_more}
-use Rattle.tx_simple.specs.Reads.{SeesOn}
+use Rattle.tx_update.specs.Reads.{SeesOn}
 use Rattle.tx_kv.specs.Views.{IsViewStop, SeesEach, SeesEachOn}
 use Rattle.tx_kv.proofs.Views.{each_on, stops_less}
 use Rattle.tx_kv.proofs.many.found_each.Goals as goal

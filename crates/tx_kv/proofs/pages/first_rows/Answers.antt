@@ -1,7 +1,7 @@
 use Rattle.tx_plan.proofs.KeyOrder.{lt_le}
-use Rattle.tx_simple.specs.Reads.{SeesOn}
-use Rattle.tx_simple.proofs.Pages.{first_page}
-use Rattle.tx_simple.proofs.Ranges.{range_upto}
+use Rattle.tx_update.specs.Reads.{SeesOn}
+use Rattle.tx_update.proofs.Pages.{first_page}
+use Rattle.tx_update.proofs.Ranges.{range_upto}
 use Rattle.tx_kv.proofs.Views.{SeenAt, seen_now}
 use Rattle.tx_kv.proofs.pages.first_rows.Goals as goal
 

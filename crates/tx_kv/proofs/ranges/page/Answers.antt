@@ -4,7 +4,7 @@ use Rattle.tx_types.specs.Keys.{key_le, key_lt}
 use Rattle.tx_core.specs.Histories.{last}
 use Rattle.tx_reader.specs.Readers.{AreTogether}
 use Rattle.tx_reader.proofs.Observers.{sees_itself}
-use Rattle.tx_simple.proofs.ReadAnswers.{page_told}
+use Rattle.tx_update.proofs.ReadAnswers.{page_told}
 use Rattle.tx_kv.specs.Views.{IsViewStop}
 use Rattle.tx_kv.proofs.ranges.page.Goals as goal
 

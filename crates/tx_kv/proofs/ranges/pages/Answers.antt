@@ -6,9 +6,9 @@ use Rattle.tx_plan.proofs.KeyOrder.{ge_false, ge_true, lt_le}
 use Rattle.tx_core.specs.Histories.{last}
 use Rattle.tx_laws.specs.Rows.{AreRowsOf}
 use Rattle.tx_reader.proofs.Observers.{sees_begins, sees_itself, sees_more}
-use Rattle.tx_simple.specs.Reads.{SeesOn}
-use Rattle.tx_simple.proofs.Pages.{AreSoFar, all_so_far, later_so_far, more_so_far, none_so_far}
-use Rattle.tx_simple.proofs.Ranges.{sees_later}
+use Rattle.tx_update.specs.Reads.{SeesOn}
+use Rattle.tx_update.proofs.Pages.{AreSoFar, all_so_far, later_so_far, more_so_far, none_so_far}
+use Rattle.tx_update.proofs.Ranges.{sees_later}
 use Rattle.tx_kv.specs.Views.{IsViewStop}
 use Rattle.tx_kv.proofs.Views.{stops_less}
 use Rattle.tx_kv.proofs.ranges.pages.Goals as goal

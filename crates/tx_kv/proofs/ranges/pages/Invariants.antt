@@ -1,7 +1,7 @@
 use Rattle.std.proofs.Common.{◌≡◌}
 use Rattle.tx_reader.specs.Readers.{OnlySees}
-use Rattle.tx_simple.specs.Reads.{SeesOn}
-use Rattle.tx_simple.proofs.Pages.{AreSoFar}
+use Rattle.tx_update.specs.Reads.{SeesOn}
+use Rattle.tx_update.proofs.Pages.{AreSoFar}
 use Rattle.tx_kv.proofs.ranges.pages.Given as goal
 
 -- it reads at the same timestamp, its seat has only seen what others did, and the rows so far are

@@ -5,9 +5,9 @@ use Rattle.tx_plan.proofs.KeyOrder.{not_lt}
 use Rattle.tx_core.specs.Histories.{last}
 use Rattle.tx_reader.specs.Readers.{IsKeyAnswer, ReadsOn}
 use Rattle.tx_reader.proofs.Observers.{sees_begins, sees_itself, sees_more}
-use Rattle.tx_simple.specs.Ranges.{greatest, row_of}
-use Rattle.tx_simple.specs.Reads.{SeesOn}
-use Rattle.tx_simple.proofs.Ranges.{range_above, range_with_top}
+use Rattle.tx_update.specs.Ranges.{greatest, row_of}
+use Rattle.tx_update.specs.Reads.{SeesOn}
+use Rattle.tx_update.proofs.Ranges.{range_above, range_with_top}
 use Rattle.tx_kv.specs.Views.{IsViewStop, SeesRange}
 use Rattle.tx_kv.proofs.Views.{SeenAt, seen_now, stops_less}
 use Rattle.tx_kv.proofs.ranges.rows_from.Goals as goal

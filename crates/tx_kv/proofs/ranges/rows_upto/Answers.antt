@@ -1,4 +1,4 @@
-use Rattle.tx_simple.proofs.Ranges.{range_upto}
+use Rattle.tx_update.proofs.Ranges.{range_upto}
 use Rattle.tx_kv.proofs.Views.{SeenAt, seen_now}
 use Rattle.tx_kv.proofs.ranges.rows_upto.Goals as goal
 

@@ -2,7 +2,7 @@
 use Rattle.std.proofs.Common.{List, subst}
 use Rattle.tx_history.specs.Records.{history_of}
 use Rattle.tx_verdict.specs.declared.verdict.CycleStep.{CycleStep}
-use Rattle.tx_verdict.specs.Steps.{AreRound, AreApart, Needs}
+use Rattle.tx_verdict.specs.Steps.{AreRound, Forbids, Needs}
 use Rattle.tx_verdict.specs.Anomalies.{IsNamed}
 use Rattle.tx_verdict.proofs.Rounds.{refused_by}
 use Rattle.tx_verdict.proofs.CycleSteps.{depends_all}
@@ -14,15 +14,15 @@ steps_of-requires-clause-hold c =
     c.as_slice.result.now c.as_slice.ensures.value c.in_ok-found.ensures
 
 pub returns-clause-refused : goal.returns-clause-refused
-returns-clause-refused c = refused_by c.args.recording.now c.args.owners.now c.requires.owners c.args.orders
+returns-clause-refused c = refused_by c.args.recording.now c.args.owners.now c.requires.owners c.args.question
     c.in_ok-steps.steps.items c.in_ok-steps.ensures
     (subst AreRound c.as_slice-2.ensures.value (c.is_round.ensures c.if-not-is_round.false))
-    (subst AreApart c.as_slice-3.ensures.value (c.are_apart.ensures c.if-not-are_apart.false))
+    (subst (Forbids c.args.question.level) c.as_slice-3.ensures.value (c.forbids.ensures c.if-not-forbids.false))
 
 pub returns-clause-cycle : goal.returns-clause-cycle
 returns-clause-cycle c = (
   subst AreRound c.as_slice-2.ensures.value (c.is_round.ensures c.if-not-is_round.false),
-  subst AreApart c.as_slice-3.ensures.value (c.are_apart.ensures c.if-not-are_apart.false),
+  subst (Forbids c.args.question.level) c.as_slice-3.ensures.value (c.forbids.ensures c.if-not-forbids.false),
   c.in_ok-steps.ensures,
   subst (λ (q : List CycleStep). Needs q c.beside_of-beside.result) c.as_slice-4.ensures.value
       c.beside_of-beside.ensures,

@@ -10,10 +10,10 @@ use Rattle.tx_verdict.proofs.lemma.is_lemma.Goals as goal
 
 pub loop-i-init : goal.loop-i-init
 loop-i-init c rest =
-    let P : List Order → Type 0 = λ q. IsClauseBy c.args.recording.now c.args.orders c.args.before.now q
+    let P : List Order → Type 0 = λ q. IsClauseBy c.args.recording.now c.args.question c.args.before.now q
     c.as_slice-clause.result.now c.args.lemma.now.hints.items c.args.lemma.now.round.items in
-    let Q : List Order → Type 0 = λ q. IsClauseBy c.args.recording.now c.args.orders c.args.before.now c.args.known.now
-    q c.args.lemma.now.hints.items c.args.lemma.now.round.items in
+    let Q : List Order → Type 0 = λ q. IsClauseBy c.args.recording.now c.args.question c.args.before.now
+    c.args.known.now q c.args.lemma.now.hints.items c.args.lemma.now.round.items in
     let same : c.extend_from_slice.new.self.items ≡ c.args.known.now =
     c.in_ok-extend_from_slice.ensures.items ∙ ap (λ q. q ++ c.args.known.now) c.new-all.ensures.items in
     subst Q c.as_slice-clause.ensures.value (subst P same rest)
@@ -24,7 +24,7 @@ loop-i-preserved c =
     let clause = c.as_slice-clause.result.now in
     let i = c.loop-i.i in
     let o = get_or clause i no_order in
-    clause_on (IsLemmaBy r c.args.orders c.args.known.now c.args.before.now c.args.lemma.now) r c.args.orders
+    clause_on (IsLemmaBy r c.args.question c.args.known.now c.args.before.now c.args.lemma.now) r c.args.question
     c.args.before.now c.args.lemma.now.hints.items c.args.lemma.now.round.items c.loop-i.all.items
     c.push.new.self.items (drop i clause) (drop (i + 1) clause) o (drop_more clause i no_order c.loop-i-test.true)
     (c.in_ok-push.ensures.items ∙ ap (λ q. c.loop-i.all.items ++ q ∷ []) c.opposite_of.ensures)
@@ -33,7 +33,7 @@ loop-i-preserved c =
 pub returns : goal.returns
 returns c is =
     let clause = c.as_slice-clause.result.now in
-    c.loop-i.invariant (clause_ends c.args.recording.now c.args.orders c.args.before.now
+    c.loop-i.invariant (clause_ends c.args.recording.now c.args.question c.args.before.now
     c.args.lemma.now.hints.items c.as_slice.result.now c.args.lemma.now.round.items c.as_slice-2.result.now
     c.loop-i.all.items (drop c.loop-i.i clause)
     (drop_of_length-le clause (grind (arith, common_steps, c.loop-i-test.false)))

@@ -20,5 +20,5 @@ loop-i-preserved c =
     let (is, settled) = c.in_ok-is_settled.ensures c.if-not-branch.false in
     let split : drop i facts ≡ f ∷ drop (i + 1) facts = drop_more facts i f c.loop-i-test.true
     ∙ ap (λ (q : Settled). q ∷ drop (i + 1) facts) (sym c.index-facts-i.is) in
-    goes_on (IsRefutationBy r c.args.orders [] facts all) r c.args.orders all known new (drop i facts)
+    goes_on (IsRefutationBy r c.args.question [] facts all) r c.args.question all known new (drop i facts)
     (drop (i + 1) facts) f split is settled c.loop-i.invariant

@@ -13,8 +13,8 @@ returns c _ =
     let o = c.args.fact.now.order in
     let known = c.args.known.now.items in
     let round = c.in_ok-is_round_by.ensures c.if-not-branch.false in
-    let P : List Order → Type 0 = λ q. IsRoundBy r c.args.orders q c.as_slice-2.result.now in
-    let Q : List CycleStep → Type 0 = λ q. IsRoundBy r c.args.orders (known ++ opposite o ∷ []) q in
+    let P : List Order → Type 0 = λ q. IsRoundBy r c.args.question q c.as_slice-2.result.now in
+    let Q : List CycleStep → Type 0 = λ q. IsRoundBy r c.args.question (known ++ opposite o ∷ []) q in
     let len : c.len-count.result ≡ length known = grind (arith, common_steps, c.len-count.ensures) in
     let seam : slice_set (known ++ opposite o ∷ []) (length known) o ≡ known ++ o ∷ [] =
     set-append_seam known (opposite o) [] o in (

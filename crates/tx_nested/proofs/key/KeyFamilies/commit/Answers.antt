@@ -25,7 +25,7 @@ invariant_of-self c =
 pub returns-clause-ok : goal.returns-clause-ok
 returns-clause-ok c =
     let x = held c.args.self.now in
-    let rec = c.in_ok-rec.ensures in
+    let rec = c.in_ok-rec.ensures.ok in
     let write : tree.get nat_cmp c.insert.new.self
     ≡ with_record x.write c.args.commit (Commit (commit_of c.in-Some.lock c.args.overlapped_rollback)) =
     same_maps (λ q. with_at x.write (tree.get nat_cmp c.insert.new.self) c.args.commit _ c.in_ok-insert.ensures.updates
@@ -39,7 +39,7 @@ pub invariant_of-self-2 : goal.invariant_of-self-2
 invariant_of-self-2 c =
     let x = held c.args.self.now in
     let made = change.Commit c.args.commit c.args.overlapped_rollback in
-    let rec = c.in_ok-rec.ensures in
+    let rec = c.in_ok-rec.ensures.ok in
     let write : tree.get nat_cmp c.insert.new.self
     ≡ with_record x.write c.args.commit (Commit (commit_of c.in-Some.lock c.args.overlapped_rollback)) =
     same_maps (λ q. with_at x.write (tree.get nat_cmp c.insert.new.self) c.args.commit _ c.in_ok-insert.ensures.updates

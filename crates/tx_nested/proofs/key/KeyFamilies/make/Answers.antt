@@ -5,15 +5,13 @@ use Rattle.tx_nested.proofs.key.KeyFamilies.make.Goals as goal
 
 pub returns-in-Ttl-clause-cells : goal.returns-in-Ttl-clause-cells
 returns-in-Ttl-clause-cells c =
-    on_ok c.set_ttl.result _ _
-    (cells_made (held c.args.self.now) (held c.set_ttl.new.self) c.args.change (change.Ttl c.in-Ttl.ttl)
-    c.args.self.now.whole c.requires c.in-Ttl.is) c.set_ttl.ensures.ok
+    cells_made (held c.args.self.now) (held c.set_ttl.new.self) c.args.change (change.Ttl c.in-Ttl.ttl)
+    c.args.self.now.whole c.requires c.in-Ttl.is c.set_ttl.ensures.set
 
 pub returns-in-Minimum-clause-cells : goal.returns-in-Minimum-clause-cells
 returns-in-Minimum-clause-cells c =
-    on_ok c.set_minimum.result _ _
-    (cells_made (held c.args.self.now) (held c.set_minimum.new.self) c.args.change (change.Minimum c.in-Minimum.min)
-    c.args.self.now.whole c.requires c.in-Minimum.is) c.set_minimum.ensures.ok
+    cells_made (held c.args.self.now) (held c.set_minimum.new.self) c.args.change (change.Minimum c.in-Minimum.min)
+    c.args.self.now.whole c.requires c.in-Minimum.is c.set_minimum.ensures.set
 
 pub returns-in-Commit-clause-cells : goal.returns-in-Commit-clause-cells
 returns-in-Commit-clause-cells c =

@@ -13,7 +13,7 @@ invariant_of-self c =
     record {
       whole = stays_whole x (after x (change.Minimum c.args.min)) _ c.args.self.now.whole
           (λ w. whole_after x (change.Minimum c.args.min) w c.requires tt)
-          (ap (λ (rec : LockRec). with_lock x (Some rec)) c.in_ok-rec.ensures.ok
+          (ap (λ (rec : LockRec). with_lock x (Some rec)) c.set_min.ensures
           ∙ sym (on_same x c.in-Some.lock (λ (rec : LockRec). with_lock x (Some (with_min rec c.args.min)))
           c.in-Some.is));
     }

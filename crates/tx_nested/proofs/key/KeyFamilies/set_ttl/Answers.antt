@@ -13,7 +13,7 @@ invariant_of-self c =
     record {
       whole = stays_whole x (after x (change.Ttl c.args.ttl)) _ c.args.self.now.whole
           (λ w. whole_after x (change.Ttl c.args.ttl) w c.requires tt)
-          (ap (λ (rec : LockRec). with_lock x (Some rec)) c.in_ok-rec.ensures.ok
+          (ap (λ (rec : LockRec). with_lock x (Some rec)) c.set_ttl.ensures
           ∙ sym (on_same x c.in-Some.lock (λ (rec : LockRec). with_lock x (Some (with_ttl rec c.args.ttl)))
           c.in-Some.is));
     }

@@ -1,140 +1,30 @@
-use Rattle.std.proofs.Common.{◌≡◌, ℕ, refl, sym, ap, subst, ◌∙◌, arith}
-use Rattle.tx_plan.specs.declared.body.Body.{Body}
+use Rattle.std.proofs.Common.{sym, subst}
+use Rattle.std.specs.Prelude.{IfSome, IfNone}
 use Rattle.tx_core.specs.Worlds.{Holds}
-use Rattle.tx_core.specs.declared.event.Event.TheVariants.{Took}
-use Rattle.tx_journal.specs.Known.{Known, HasRecorded}
+use Rattle.tx_journal.specs.Known.{Known, HasSeen}
 use Rattle.tx_journal.specs.Replies.{Asked}
-use Rattle.tx_region.specs.Calls.{Executes, Counts}
-use Rattle.tx_region.specs.Regions.{region_of}
-use Rattle.tx_region.specs.TakenRequests.{Loads, Answered}
-use Rattle.tx_region.proofs.TakenRequests.{least_taken, does_taken, knows_taken, may_take_it, reads_taken, keeps_took, keeps_same, answered, if_some_is}
+use Rattle.tx_region.specs.Calls.{TakesNoMemory}
+use Rattle.tx_region.specs.TakenRequests.{Answered}
 use Rattle.tx_region.proofs.region.Region.answer.Goals as goal
 
-pub answer-requires : goal.answer-requires
-answer-requires g c = let low =
-    c.load-loaded.ensures.loads.low in record { room = (omega (arith, low.0), omega (arith, low.1)) }
-
-pub reply_done-requires : goal.reply_done-requires
-reply_done-requires g c =
-    let bounds = g.J.JournalId.bounds in
-    let content = g.F.Holds.content in
-    let old = c.args.self.now in
-    let s = c.self.inside in
-    let n = s.seat.seat in
-    let q = c.load-loaded.new.request in
-    let load = c.load-loaded.ensures in
-    let last = c.load-loaded.result.last in
-    let mark = c.load-loaded.result.mark in
-    let number : n ≡ old.seat = ap (λ (k : Known). k.seat) c.self.view_is ∙ load.same.0 in
-    let loads : Loads bounds n old.events q.by q.body last mark s.seat.events =
-    subst (λ (p : ℕ × Known). Loads bounds p.0 old.events q.by q.body last mark p.1.events)
-    (λ i. (sym number i, sym c.self.view_is i)) load.loads in
-    let holds : Holds bounds n q.body =
-    subst (λ (p : ℕ × Body). Holds bounds p.0 p.1)
-    (λ i. (sym number i, sym (ap (λ (r : Asked). r.body) load.request) i)) c.requires.holds in
-    let before = region_of content s.records in
-    let after = region_of content c.answer.new.self in
-    let a = c.in-Ok.done.answer in
-    let read = c.in-Ok.done.read in
-    let executes = subst (λ (b : Body). Executes mark before last b a read after) c.body.ensures.body
-    c.in-Ok.ensures.ok in
-    record {
-      right = may_take_it bounds n c.self.invariant.inside old.events q.by q.body last mark
-          s.seat.events loads c.body.ensures.allowed holds before after a read executes c.self.invariant.left
-          (λ k. refl);
-      read = reads_taken bounds n c.self.invariant.inside old.events q.by q.body last mark
-          s.seat.events loads c.body.ensures.allowed holds before after a read executes c.self.invariant.left
-          (λ k. refl);
-      knows = knows_taken bounds n c.self.invariant.inside old.events q.by q.body last mark
-          s.seat.events loads c.body.ensures.allowed holds before after a read executes c.self.invariant.left
-          (λ k. refl);
-    }
-
-pub invariant_of-self-in-Ok : goal.invariant_of-self-in-Ok
-invariant_of-self-in-Ok g c =
-    let bounds = g.J.JournalId.bounds in
-    let content = g.F.Holds.content in
-    let numbers = g.F.Holds.numbers in
-    let old = c.args.self.now in
-    let s = c.self.inside in
-    let n = s.seat.seat in
-    let q = c.load-loaded.new.request in
-    let load = c.load-loaded.ensures in
-    let last = c.load-loaded.result.last in
-    let mark = c.load-loaded.result.mark in
-    let number : n ≡ old.seat = ap (λ (k : Known). k.seat) c.self.view_is ∙ load.same.0 in
-    let loads : Loads bounds n old.events q.by q.body last mark s.seat.events =
-    subst (λ (p : ℕ × Known). Loads bounds p.0 old.events q.by q.body last mark p.1.events)
-    (λ i. (sym number i, sym c.self.view_is i)) load.loads in
-    let holds : Holds bounds n q.body =
-    subst (λ (p : ℕ × Body). Holds bounds p.0 p.1)
-    (λ i. (sym number i, sym (ap (λ (r : Asked). r.body) load.request) i)) c.requires.holds in
-    let records = c.answer.new.self in
-    let before = region_of content s.records in
-    let after = region_of content records in
-    let a = c.in-Ok.done.answer in
-    let read = c.in-Ok.done.read in
-    let executes = subst (λ (b : Body). Executes mark before last b a read after) c.body.ensures.body
-    c.in-Ok.ensures.ok in
-    let counts = subst (λ (b : Body). Counts b s.records.taken (before 0).cells
-    (numbers s.records.families) records.taken (after 0).cells (numbers records.families)) c.body.ensures.body
-    c.in-Ok.ensures.counts in
-    let does = does_taken bounds n c.self.invariant.inside old.events q.by q.body last mark
-    s.seat.events loads c.body.ensures.allowed holds before after a read executes c.self.invariant.left
-    (λ k. refl) in
-    let seat_now = c.reply_done.new.seat in
-    keeps_took bounds n s.seat.events q.body last a before after read c.self.invariant.left (λ k. refl) does
-    seat_now.events c.reply_done.ensures.added c.self.invariant.inside (before 0).cells (after 0).cells (λ k. refl)
-    (λ k. refl) s.records.taken (numbers s.records.families)
-    (numbers records.families) c.self.invariant.count c.self.invariant.noted records.taken counts seat_now
-    c.reply_done.ensures.same.0 refl
+pub answer_in-requires : goal.answer_in-requires
+answer_in-requires g c = record {
+  holds = subst (λ (x : Known × Asked). Holds g.J.JournalId.bounds x.0.seat x.1.body)
+      (λ i. (sym c.tell-told.ensures.same i, sym c.new-reply.ensures.0 i)) c.requires.holds;
+}
 
 pub returns-clause-answered : goal.returns-clause-answered
 returns-clause-answered g c =
-    let bounds = g.J.JournalId.bounds in
-    let content = g.F.Holds.content in
-    let old = c.args.self.now in
-    let s = c.self.inside in
-    let n = s.seat.seat in
-    let q = c.load-loaded.new.request in
-    let load = c.load-loaded.ensures in
-    let last = c.load-loaded.result.last in
-    let mark = c.load-loaded.result.mark in
-    let number : n ≡ old.seat = ap (λ (k : Known). k.seat) c.self.view_is ∙ load.same.0 in
-    let loads : Loads bounds n old.events q.by q.body last mark s.seat.events =
-    subst (λ (p : ℕ × Known). Loads bounds p.0 old.events q.by q.body last mark p.1.events)
-    (λ i. (sym number i, sym c.self.view_is i)) load.loads in
-    let holds : Holds bounds n q.body =
-    subst (λ (p : ℕ × Body). Holds bounds p.0 p.1)
-    (λ i. (sym number i, sym (ap (λ (r : Asked). r.body) load.request) i)) c.requires.holds in
-    let before = region_of content s.records in
-    let after = region_of content c.answer.new.self in
-    let a = c.in-Ok.done.answer in
-    let read = c.in-Ok.done.read in
-    let executes = subst (λ (b : Body). Executes mark before last b a read after) c.body.ensures.body
-    c.in-Ok.ensures.ok in
-    let least = least_taken bounds n c.self.invariant.inside old.events q.by q.body last mark
-    s.seat.events loads c.body.ensures.allowed holds before after a read executes c.self.invariant.left
-    (λ k. refl) in
-    let given = c.reply_done.result in
-    let reply = c.reply_done.ensures in
-    let so : Answered bounds n old.events given a =
-    answered bounds n old.events q.by q.body last mark
-    s.seat.events loads a least given (ap (λ (r : Asked). r.by) reply.request)
-    (ap (λ (r : Asked). r.body) reply.request)
-    (subst (λ h. HasRecorded bounds n
-    s.seat.events (Took record { region = n; body = q.body; loaded = last; answer = a }) h) reply.told
-    reply.added) in
-    if_some_is given.answer a (Answered bounds old.seat old.events given) reply.answer
-    (subst (λ i. Answered bounds i old.events given a) number so)
+    let reply = c.answer_in.new.place in
+    subst (λ (k : Known). IfSome reply.answer (Answered g.J.JournalId.bounds k.seat k.events reply))
+    c.tell-told.ensures.same c.answer_in.ensures.answered
 
-pub invariant_of-self : goal.invariant_of-self
-invariant_of-self g c =
-    let content = g.F.Holds.content in
-    let numbers = g.F.Holds.numbers in
-    let s = c.self.inside in
-    let records = c.answer.new.self in
-    keeps_same g.J.JournalId.bounds s.seat c.tell-told.new.self (region_of content s.records)
-    (region_of content records) s.records.taken records.taken (numbers s.records.families)
-    (numbers records.families) c.tell-told.ensures.same c.in-Err.ensures.same c.in-Err.ensures.same_numbers
-    c.self.invariant
+pub returns-clause-always : goal.returns-clause-always
+returns-clause-always g c none =
+    c.answer_in.ensures.always (subst (λ (q : Asked). TakesNoMemory q.body) (sym c.new-reply.ensures.0) none)
+
+pub returns-clause-refused : goal.returns-clause-refused
+returns-clause-refused g c =
+    let now = c.answer_in.new.self in
+    subst (λ (k : Known). IfNone c.answer_in.new.place.answer (HasSeen g.J.JournalId.bounds k.seat k.events now.events))
+    c.tell-told.ensures.same c.answer_in.ensures.refused

@@ -1,77 +1,16 @@
-use Rattle.std.proofs.Common.{sym, ap, subst, ◌∙◌}
+use Rattle.std.proofs.Common.{◌≡◌, ◌∙◌, sym, ap, subst}
 use Rattle.tx_plan.specs.declared.body.Body.{Body}
-use Rattle.tx_core.specs.Histories.{Begins}
-use Rattle.tx_core.proofs.seats.Beginnings.{begins_more, extends_begins}
-use Rattle.tx_journal.specs.Known.{Known, HasSeen}
+use Rattle.tx_core.specs.Histories.{History}
 use Rattle.tx_journal.specs.Replies.{Asked}
-use Rattle.tx_journal.proofs.Calls.{seen_more}
-use Rattle.tx_region.specs.Regions.{region_of}
-use Rattle.tx_region.specs.TakenRequests.{IsMark, Loads}
-use Rattle.tx_region.proofs.TakenRequests.{keeps_seen}
+use Rattle.tx_region.specs.TakenRequests.{Loads}
 use Rattle.tx_region.proofs.region.Region.load.Goals as goal
-
-pub invariant_of-self : goal.invariant_of-self
-invariant_of-self g c =
-    let bounds = g.J.JournalId.bounds in
-    let s = c.self.inside in
-    let n = s.seat.seat in
-    let learnt = c.learn.new.self.events in
-    let point = c.last-last.new.self.events in
-    let marked = c.load_mark-mark.new.seat.events in
-    let one = c.learn.ensures.same.0 in
-    let two = c.last-last.ensures.same.0 ∙ one in
-    let number = c.load_mark-mark.ensures.same.0 ∙ two in
-    let here = seen_more bounds n s.seat.events learnt point c.learn.ensures.seen
-    (subst (λ m. HasSeen bounds m learnt point) one c.last-last.ensures.seen) in
-    let there = seen_more bounds n s.seat.events point marked here
-    (subst (λ m. HasSeen bounds m point marked) two c.load_mark-mark.ensures.seen) in
-    keeps_seen bounds s.seat c.load_mark-mark.new.seat
-    (region_of g.F.Holds.content s.records) s.records.taken (g.F.Holds.numbers s.records.families) c.self.invariant
-    number there.extends
-
-pub returns-clause-seen : goal.returns-clause-seen
-returns-clause-seen g c =
-    let bounds = g.J.JournalId.bounds in
-    let s = c.self.inside in
-    let n = s.seat.seat in
-    let learnt = c.learn.new.self.events in
-    let point = c.last-last.new.self.events in
-    let marked = c.load_mark-mark.new.seat.events in
-    let one = c.learn.ensures.same.0 in
-    let two = c.last-last.ensures.same.0 ∙ one in
-    let here = seen_more bounds n s.seat.events learnt point c.learn.ensures.seen
-    (subst (λ m. HasSeen bounds m learnt point) one c.last-last.ensures.seen) in
-    let there = seen_more bounds n s.seat.events point marked here
-    (subst (λ m. HasSeen bounds m point marked) two c.load_mark-mark.ensures.seen) in
-    subst (λ (k : Known). HasSeen bounds k.seat k.events marked) c.self.view_is there
 
 pub returns-clause-loads : goal.returns-clause-loads
 returns-clause-loads g c =
-    let bounds = g.J.JournalId.bounds in
-    let s = c.self.inside in
-    let n = s.seat.seat in
-    let learnt = c.learn.new.self.events in
-    let point = c.last-last.new.self.events in
-    let marked = c.load_mark-mark.new.seat.events in
-    let one = c.learn.ensures.same.0 in
-    let two = c.last-last.ensures.same.0 ∙ one in
-    let m = c.load_mark-mark.ensures in
-    let asked = c.tell-heard.new.self in
-    let mark = c.load_mark-mark.result in
-    let here = seen_more bounds n s.seat.events learnt point c.learn.ensures.seen
-    (subst (λ i. HasSeen bounds i learnt point) one c.last-last.ensures.seen) in
-    let on = subst (λ i. HasSeen bounds i point marked) two m.seen in
-    let heard = subst (λ h. Begins h learnt) (c.tell-heard.ensures.told
-    ∙ ap (λ (r : Asked). r.by) (sym c.tell-heard.ensures.same)) c.learn.ensures.told in
-    let loads : Loads bounds n s.seat.events asked.by asked.body c.last-last.result mark marked = record {
-      point = point;
-      here = here;
-      heard = begins_more asked.by learnt point heard
-          (extends_begins c.learn.new.self.seat learnt point c.last-last.ensures.seen.extends);
-      is_last = c.last-last.ensures.last.0;
-      on = on;
-      is_mark = subst (λ (b : Body). IsMark b mark marked) c.body.ensures.body m.mark;
-      low = (c.last-last.ensures.last.1, m.low);
-    } in
-    subst (λ (k : Known). Loads bounds k.seat k.events asked.by asked.body c.last-last.result mark marked)
-    c.self.view_is loads
+    let old = c.args.self.now in
+    let loaded = c.load_after.result in
+    let tell = c.tell-heard.ensures in
+    let heard : c.tell-heard.result ≡ c.tell-heard.new.self.by = tell.told ∙ ap (λ (r : Asked). r.by) (sym tell.same) in
+    subst (λ (x : History × Body). Loads g.J.JournalId.bounds old.seat old.events x.0 x.1 loaded.last loaded.mark
+    c.load_after.new.self.events)
+    (λ i. (heard i, c.body.ensures.body i)) c.load_after.ensures.loads

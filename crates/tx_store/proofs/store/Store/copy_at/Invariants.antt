@@ -1,7 +1,7 @@
 use Rattle.std.proofs.Common.{◌≡◌}
 use Rattle.tx_store.proofs.store.Store.copy_at.Given as goal
 
--- the request stays
+-- the reply stays
 abbrev pub invariant-loop : goal.invariant-loop
 invariant-loop g l = (goal.iterator-loop g).can_next l.iterator' × (goal.iterator-loop g).is_finite l.iterator'
-    × (l.request ≡ l.fn.request)
+    × (l.place ≡ l.fn.place)

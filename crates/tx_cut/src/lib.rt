@@ -1,0 +1,16 @@
+//! A part of a sheet: the rows of some lines and sessions, and some keys. Rows are those of the
+//! sheet, none of them changed; what is left out between them is told of locks, so that a picture
+//! of the part has each lock from where it stands.
+#![tactic(auto)]
+
+mod cut;
+mod hidden;
+mod lives;
+mod part;
+mod rows;
+
+pub use cut::Cut;
+pub use hidden::HiddenLock;
+pub use lives::Life;
+pub use part::{Part, part_of, whole_of};
+pub use rows::ShownRow;

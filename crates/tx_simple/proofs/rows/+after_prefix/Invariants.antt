@@ -1,5 +1,0 @@
-use Rattle.std.proofs.Common.{length}
-use Rattle.tx_simple.proofs.rows.+after_prefix.Given as goal
-
-abbrev pub decreases-after_prefix : goal.decreases-after_prefix
-decreases-after_prefix l = length l.bytes.now

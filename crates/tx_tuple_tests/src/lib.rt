@@ -1,5 +1,0 @@
-//! Tests of keys of several parts.
-#![tactic(auto)]
-
-#[cfg(test)]
-mod tests;

@@ -1,0 +1,42 @@
+use Rattle.std.proofs.Common.{ap, subst, ◌∙◌}
+use Rattle.tx_core.specs.Histories.{Begins}
+use Rattle.tx_client.specs.Calls.{Seated}
+use Rattle.tx_update.proofs.CallSequences.{follows_get, follows_more, goes_begins}
+use Rattle.tx_update.proofs.ReadReplies.{get_answered}
+use Rattle.tx_update.proofs.ReadAnswers.{if_get_finds}
+use Rattle.tx_update.proofs.session.Running.get.Goals as goal
+
+pub invariant_of-self : goal.invariant_of-self
+invariant_of-self g c =
+    let old = c.self.inside.session in
+    let new = c.get.new.self in
+    let both = follows_get g.S.Sender.sends g.J.JournalId.bounds old new _ _ c.args.key.now c.get.result
+    c.get.ensures in
+    (c.self.invariant.0, follows_more g.B.Begun.session old new c.self.invariant.1 both.0, c.self.invariant.2)
+
+pub returns-clause-same : goal.returns-clause-same
+returns-clause-same g c =
+    let both = follows_get g.S.Sender.sends g.J.JournalId.bounds c.self.inside.session c.get.new.self _ _ c.args.key.now
+    c.get.result c.get.ensures in
+    both.1 ∙ ap (λ (s : Seated). s.state.buffer) c.self.view_is
+
+pub returns-clause-reads : goal.returns-clause-reads
+returns-clause-reads g c =
+    if_get_finds g.J.JournalId.bounds g.S.Sender.fits g.S.Sender.sends g.S.Sender.keys_between c.self.invariant.0
+    c.self.inside.session c.args.self.now c.get.new.self g.B.Begun.session.state.start
+    (ap (λ (s : Seated). s) c.self.view_is)
+    c.self.invariant.1.start _ _ c.args.key.now c.get.result c.get.ensures
+
+pub returns-clause-more : goal.returns-clause-more
+returns-clause-more g c =
+    let old = c.self.inside.session in
+    let both = follows_get g.S.Sender.sends g.J.JournalId.bounds old c.get.new.self _ _ c.args.key.now c.get.result
+    c.get.ensures in
+    subst (λ (s : Seated). Begins s.seat.events c.get.new.self.seat.events) c.self.view_is
+    (goes_begins old.seat c.get.new.self.seat both.0.seat)
+
+pub returns-clause-may : goal.returns-clause-may
+returns-clause-may g c =
+    get_answered g.J.JournalId.bounds g.S.Sender.fits g.S.Sender.sends g.S.Sender.keys_between c.self.invariant.0
+    g.B.Begun.session c.self.inside.session c.get.new.self c.self.invariant.1.seat c.self.invariant.1.start _ _
+    c.args.key.now c.get.result c.get.ensures
