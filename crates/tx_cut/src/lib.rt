@@ -14,3 +14,7 @@ pub use hidden::HiddenLock;
 pub use lives::Life;
 pub use part::{Part, part_of, whole_of};
 pub use rows::ShownRow;
+pub use tx_sheet::{
+    Change, KeyColumn, KeyRead, Kind, Row, RowKind, SeenLock, SeenRecord, Sending, Session, Sheet,
+    Target, is_same_lock, places, put_first, put_number, put_stamp, sheet_of, shown,
+};

@@ -5,8 +5,7 @@ use crate::markup::{
 };
 use crate::rows::goes_beyond;
 use std::alloc::{AllocError, Global};
-use tx_cut::Part;
-use tx_sheet::{Row, Sending, places};
+use tx_cut::{Part, Row, Sending, places};
 
 /// A sign of a drawing.
 #[derive(Clone, Copy, Debug, PartialEq, Eq)]

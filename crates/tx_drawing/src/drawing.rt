@@ -7,8 +7,7 @@ use crate::locks::Bars;
 use crate::markup::{at, put_words};
 use crate::rows::{HeldBox, put_dot_and_label, put_machine, put_reads, put_reason, put_sending};
 use std::alloc::{AllocError, Global};
-use tx_cut::{HiddenLock, Part, ShownRow};
-use tx_sheet::{Row, RowKind, put_number};
+use tx_cut::{HiddenLock, Part, Row, RowKind, ShownRow, put_number};
 
 // A drawing that is being made: what lies under, the grounds of words, what no ground may hide, and
 // what lies over all.

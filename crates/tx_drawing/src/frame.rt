@@ -2,8 +2,7 @@
 use crate::layout::{Column, HEAD, Layout, TOP, row_height};
 use crate::markup::{Area, at, put_box, put_line, put_words};
 use std::alloc::{AllocError, Global};
-use tx_cut::{Life, Part};
-use tx_sheet::{put_number, put_stamp, shown};
+use tx_cut::{Life, Part, put_number, put_stamp, shown};
 
 // How each class looks: sizes of words, colours.
 static STYLE: &str = "<style>\

@@ -1,7 +1,6 @@
 //! The words of a drawing.
 use std::alloc::{AllocError, Global};
-use tx_cut::Part;
-use tx_sheet::{KeyRead, Kind, Row, SeenLock, SeenRecord, places, put_first, put_stamp, shown};
+use tx_cut::{KeyRead, Kind, Part, Row, SeenLock, SeenRecord, places, put_first, put_stamp, shown};
 
 /// The most places that the words over a step take.
 const MAX_LABEL: usize = 33;

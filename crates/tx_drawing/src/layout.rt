@@ -1,8 +1,7 @@
 //! Where the rows and columns of a drawing stand, in its units.
 use crate::label::{lock_words, machine_words, read_words, record_words};
 use std::alloc::{AllocError, Global};
-use tx_cut::{HiddenLock, Part, ShownRow};
-use tx_sheet::{Change, KeyColumn, KeyRead, Row, RowKind, places, shown};
+use tx_cut::{Change, HiddenLock, KeyColumn, KeyRead, Part, Row, RowKind, ShownRow, places, shown};
 
 /// Where the heads of columns stand.
 pub(crate) const HEAD: usize = 48;

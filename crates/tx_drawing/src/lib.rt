@@ -13,4 +13,3 @@ mod markup;
 mod rows;
 
 pub use drawing::svg_of;
-pub use markup::put_text;

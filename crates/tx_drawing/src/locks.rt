@@ -3,8 +3,7 @@ use crate::label::{dropped_words, lock_words, record_words};
 use crate::layout::{Layout, between_rows};
 use crate::markup::{Area, Point, at, put_box, put_mark, put_words};
 use std::alloc::{AllocError, Global};
-use tx_cut::HiddenLock;
-use tx_sheet::{Change, Kind, Row, SeenLock, SeenRecord, is_same_lock};
+use tx_cut::{Change, HiddenLock, Kind, Row, SeenLock, SeenRecord, is_same_lock};
 
 // How wide a bar is.
 const BAR_WIDTH: usize = 8;

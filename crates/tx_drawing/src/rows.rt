@@ -3,7 +3,7 @@ use crate::label::read_words;
 use crate::layout::{Layout, PLACE, SMALL_PLACE};
 use crate::markup::{Area, Point, at, put_arrow, put_box, put_cross, put_dot, put_line, put_words};
 use std::alloc::{AllocError, Global};
-use tx_sheet::{Row, Sending, Target, places};
+use tx_cut::{Row, Sending, Target, places};
 
 /// A request that is held: its name, in which column, and the place below its box.
 #[derive(Drop)]

@@ -2,9 +2,8 @@
 use std::alloc::{AllocError, Global};
 use tx_cut::Cut;
 use tx_film::{keys_of, lines_of, session_named};
-use tx_script::Broken;
 use tx_steps::{Line, Program};
-use tx_text::Parts;
+use tx_text::{Broken, Parts};
 
 /// A name that no line of a script has.
 #[derive(Clone, Copy, Debug, PartialEq, Eq)]

@@ -2,50 +2,20 @@
 ghost use Rattle.std.specs.Prelude.{◌≡◌, ◌≢◌, map, IfOk, IfErr, IfSome};
 ghost use Rattle.std.specs.Io.KnownBytes.{Appends, Keeps};
 ghost use Rattle.tx_text.specs.Lines.{lines_of as lines_in};
+ghost use Rattle.tx_page.specs.Shown.{PageOf};
 ghost use Rattle.tx_explain.specs.Explained.{Shows, Explains};
 
 use crate::options::{PictureForm, PictureOptions};
-use std::alloc::{AllocError, Global};
-use std::io::{BufRead, ErrorKind, Write};
+use std::alloc::Global;
+use std::io::{BufRead, Write};
 use tx_cells::{Families, Makes};
-use tx_cut::part_of;
+use tx_cut::{part_of, sheet_of, whole_of};
 use tx_drawing::svg_of;
-use tx_film::{Film, film_lines, keys_of, lines_of};
+use tx_film::{Film, ScriptStop, film_lines, keys_of, lines_of, read_all, stop_of};
 use tx_page::page_of;
 use tx_picture::text_of;
-use tx_script::{Broken, End, SessionStage};
-use tx_sheet::sheet_of;
-use tx_text::{finish, put_fault, send};
+use tx_text::{Broken, End, finish, send};
 use tx_types::Key;
-
-/// Where a script stopped that is at fault, for who tells why.
-#[derive(Debug, Drop)]
-pub struct ScriptStop {
-    /// The number of its line, from 1 up.
-    pub number: u64,
-    /// The line, without its newline.
-    pub line: Vec<u8>,
-    /// The line of its fault as it was played, with its newline: it names the cause.
-    pub reply: Vec<u8>,
-    /// How far the session of that line was, where the line is a draw, a commit or an abort that it
-    /// may not make.
-    pub stage: Option<SessionStage>,
-}
-
-// Reads all that is left.
-fn read_all<R: BufRead>(alloc: Global, reader: &mut R) -> Result<Vec<u8>, Broken>
-    ensures { IfOk result (λ text. IfSome (R.remaining reader.old) (λ input. text.items ≡ input)) }
-{
-    let mut text = Vec::new(alloc);
-    match reader.read_to_end(&mut text) {
-        Ok(_) => Ok(text),
-        Err(e) => if e.kind() == ErrorKind::OutOfMemory {
-            Err(Broken::Memory)
-        } else {
-            Err(Broken::Input)
-        },
-    }
-}
 
 // The text, or the drawing, of a script that was played, by its film.
 fn drawn(
@@ -64,6 +34,16 @@ fn drawn(
     }
 }
 
+// The page of a script that was played, by its film: the whole run, with the machine's steps.
+fn page(alloc: Global, keys: &[Key], lines: &[&[u8]], film: &Film) -> Result<Vec<u8>, Broken>
+    ensures { IfOk result (λ text. PageOf (map (λ line. line.now) lines.now) film.now text.items) }
+{
+    let sheet = sheet_of(alloc, keys, lines, film, true)?;
+    let whole = whole_of(alloc, &sheet)?;
+    let drawing = svg_of(alloc, &whole)?;
+    page_of(alloc, keys, lines, film, &sheet, drawing.as_str())
+}
+
 // The picture of a script that was played, by its film.
 fn picture(
     alloc: Global,
@@ -75,30 +55,9 @@ fn picture(
     ensures { IfOk result (λ text. Shows options.entry.form (map (λ line. line.now) lines.now) film.now text.items) }
 {
     match options.form {
-        PictureForm::Page => page_of(alloc, keys, lines, film),
+        PictureForm::Page => page(alloc, keys, lines, film),
         PictureForm::Text | PictureForm::Drawing => drawn(alloc, options, keys, lines, film),
     }
-}
-
-// Where a script stopped that is at fault: at the last line that was played.
-#[cold]
-fn stop_of(alloc: Global, lines: &[&[u8]], film: &Film) -> Result<Option<ScriptStop>, AllocError> {
-    let count = film.frames().len();
-    let (Some(line), Some(frame)) = (lines.get(count.saturating_sub(1)), film.frames().last())
-    else {
-        return Ok(None);
-    };
-    let Err(cause) = &frame.reply else {
-        return Ok(None);
-    };
-    let mut reply = Vec::new(alloc);
-    put_fault(&mut reply, count as u64, *cause)?;
-    Ok(Some(ScriptStop {
-        number: count as u64,
-        line: line.to_vec(alloc)?,
-        reply,
-        stage: film.stage(),
-    }))
 }
 
 // Writes a text, and hands on what the writer still holds back.

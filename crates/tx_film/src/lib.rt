@@ -8,10 +8,15 @@ mod film;
 mod frame;
 mod keys;
 mod lines;
+mod question;
 mod said;
+mod stop;
 
 pub use film::film_lines;
 pub use frame::{Film, Frame, KeyShown};
 pub use keys::keys_of;
-pub use lines::lines_of;
+pub use lines::{lines_of, read_all};
+pub use question::RunQuestion;
 pub use said::{key_named, session_named};
+pub use stop::{ScriptStop, stop_of};
+pub use tx_script::bounds_in;

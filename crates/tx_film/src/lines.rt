@@ -1,10 +1,24 @@
-//! The lines of a text that is at hand.
-ghost use Rattle.std.specs.Prelude.{◌≡◌, ◌≢◌, ◌<◌, ◌≤◌, ◌∷◌, length, take, slice_index, map, All, IfOk, true, false};
+//! The text of an input, and the lines of a text that is at hand.
+ghost use Rattle.std.specs.Prelude.{◌≡◌, ◌≢◌, ◌<◌, ◌≤◌, ◌∷◌, length, take, slice_index, map, All, IfOk, IfSome, true, false};
 ghost use Rattle.tx_text.specs.Lines.{lines_of as lines_in, NoNewline};
 ghost use Rattle.tx_film.specs.Lines.{AreLines};
 
 use memchr::memchr;
 use std::alloc::{AllocError, Global};
+use std::io::{BufRead, ErrorKind};
+use tx_text::Broken;
+
+/// All that is left to read. `Input` where a read failed, `Memory` where a growth was refused.
+pub fn read_all<R: BufRead>(alloc: Global, reader: &mut R) -> Result<Vec<u8>, Broken>
+    ensures { IfOk result (λ text. IfSome (R.remaining reader.old) (λ input. text.items ≡ input)) }
+{
+    let mut text = Vec::new(alloc);
+    match reader.read_to_end(&mut text) {
+        Ok(_) => Ok(text),
+        Err(error) if error.kind() == ErrorKind::OutOfMemory => Err(Broken::Memory),
+        Err(_) => Err(Broken::Input),
+    }
+}
 
 // The bytes before the first newline, and whether there is one.
 fn before_newline(bytes: &[u8]) -> (usize, bool)

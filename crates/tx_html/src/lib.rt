@@ -5,6 +5,8 @@
 
 mod page;
 mod shield;
+mod text;
 
 pub use page::{PageFrame, PageParts, put_page};
 pub use shield::{put_shielded, shielded_is_data};
+pub use text::put_text;

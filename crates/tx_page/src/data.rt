@@ -3,11 +3,10 @@
 use std::alloc::{AllocError, Global};
 use tx_cells::KeyVersions;
 use tx_core::Body;
-use tx_film::{Film, Frame};
+use tx_cut::{Row, Sending, Session, Sheet};
+use tx_film::{Film, Frame, bounds_in};
 use tx_ops::SessionStage;
 use tx_plan::{LockHead, RecordHead};
-use tx_script::bounds_in;
-use tx_sheet::{Row, Sending, Session, Sheet};
 use tx_text::{Broken, put_digits, put_number, put_string};
 use tx_types::{Key, LockKind, Mode};
 

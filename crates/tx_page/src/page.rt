@@ -10,11 +10,9 @@ use crate::head::HEAD;
 use crate::lines::{replies_of, script_of, steps_of};
 use crate::table::rows_of;
 use std::alloc::{AllocError, Global};
-use tx_cut::whole_of;
-use tx_drawing::svg_of;
+use tx_cut::{Sheet, whole_of};
 use tx_film::Film;
 use tx_html::{PageFrame, PageParts, put_page};
-use tx_sheet::sheet_of;
 use tx_text::Broken;
 use tx_types::Key;
 
@@ -33,20 +31,25 @@ fn page_with(alloc: Global, parts: &PageParts<'_>) -> Result<Vec<u8>, AllocError
     Ok(page)
 }
 
-/// The page of a film of these lines, up to a fault, with these keys, which rise: the drawing with
-/// the machine's steps, a row a line, and as data the lines, the replies, the machine's steps, and
-/// what stood on keys. `Memory` where a growth was refused.
-pub fn page_of(alloc: Global, keys: &[Key], lines: &[&[u8]], film: &Film) -> Result<Vec<u8>, Broken>
+/// The page of a film of these lines, up to a fault, with these keys, which rise, whose rows are a
+/// sheet and which is drawn so: the drawing, a row a line, and as data the lines, the replies, the
+/// machine's steps, and what stood on keys. `Memory` where a growth was refused.
+pub fn page_of(
+    alloc: Global,
+    keys: &[Key],
+    lines: &[&[u8]],
+    film: &Film,
+    sheet: &Sheet,
+    drawing: &str,
+) -> Result<Vec<u8>, Broken>
     ensures { IfOk result (λ text. PageOf (map (λ line. line.now) lines.now) film.now text.items) }
 {
-    let sheet = sheet_of(alloc, keys, lines, film, true)?;
-    let whole = whole_of(alloc, &sheet)?;
-    let drawing = svg_of(alloc, &whole)?;
+    let whole = whole_of(alloc, sheet)?;
     let rows = rows_of(alloc, &whole)?;
     let script = script_of(alloc, lines)?;
     let replies = replies_of(alloc, film)?;
     let steps = steps_of(alloc, film)?;
-    let rest = data_of(alloc, keys, lines, film, &sheet)?;
+    let rest = data_of(alloc, keys, lines, film, sheet)?;
     let parts = PageParts {
         drawing: drawing.as_bytes(),
         rows: rows.as_bytes(),

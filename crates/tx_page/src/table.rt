@@ -1,9 +1,8 @@
 //! The lines of a run as rows of a table.
 use std::alloc::{AllocError, Global};
-use tx_cut::{Part, ShownRow};
-use tx_drawing::put_text;
+use tx_cut::{Part, Row, ShownRow, put_number, shown};
+use tx_html::put_text;
 use tx_picture::{changed_words, put_sending};
-use tx_sheet::{Row, put_number, shown};
 
 // Appends a cell of these words.
 fn put_cell(out: &mut String, words: &str) -> Result<(), AllocError> {

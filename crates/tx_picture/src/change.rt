@@ -1,7 +1,6 @@
 //! What changed of a key, in words.
 use std::alloc::{AllocError, Global};
-use tx_cut::Part;
-use tx_sheet::{Change, Kind, SeenLock, SeenRecord, is_same_lock, put_stamp};
+use tx_cut::{Change, Kind, Part, SeenLock, SeenRecord, is_same_lock, put_stamp};
 
 // Appends what a lock will do and the value of a put, whose it is by start, and its minimum.
 fn put_lock(out: &mut String, lock: SeenLock, value: &str) -> Result<(), AllocError> {

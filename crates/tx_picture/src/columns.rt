@@ -1,8 +1,7 @@
 //! Where the columns of a text stand.
 use crate::entry::Entry;
 use std::alloc::{AllocError, Global};
-use tx_cut::Part;
-use tx_sheet::{places, shown};
+use tx_cut::{Part, places, shown};
 
 /// The widest that a column is, but for the places between columns.
 const MAX_WIDTH: usize = 34;

@@ -1,8 +1,7 @@
 //! The words of a row.
 use crate::change::changed_words;
 use std::alloc::{AllocError, Global};
-use tx_cut::Part;
-use tx_sheet::{Row, Sending};
+use tx_cut::{Part, Row, Sending};
 
 /// The words of a row: its step and its reply, and what changed by it.
 #[derive(Drop)]

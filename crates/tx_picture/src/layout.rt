@@ -3,8 +3,7 @@ use crate::columns::{BETWEEN, Column, Columns, MARGIN};
 use crate::entry::{Entry, entries_of};
 use crate::wrap::{Room, put_spaces, put_words};
 use std::alloc::{AllocError, Global};
-use tx_cut::{Part, ShownRow};
-use tx_sheet::{places, put_first, put_number, shown};
+use tx_cut::{Part, ShownRow, places, put_first, put_number, shown};
 
 // The first session of each column.
 fn first_heads(alloc: Global, part: &Part<'_>) -> Result<Vec<usize>, AllocError> {

@@ -1,6 +1,6 @@
 //! Words that go on below where a line is full.
 use std::alloc::AllocError;
-use tx_sheet::places;
+use tx_cut::places;
 
 /// Where words stand: behind how many places of their line, and how many they have.
 #[derive(Clone, Copy, Debug)]

@@ -12,8 +12,7 @@ use crate::walk::Played;
 use crate::words::shown_bytes;
 use std::alloc::{AllocError, Global};
 use tx_cells::KeyVersions;
-use tx_film::{Film, Frame};
-use tx_script::bounds_in;
+use tx_film::{Film, Frame, bounds_in};
 use tx_text::Broken;
 use tx_types::Key;
 

@@ -1,6 +1,7 @@
 //! A command over an input and an output: what was written is handed on before more is read.
 use crate::asked::Invocation;
 use crate::failure::{Failing, Stopped};
+use crate::more::MoreCommands;
 use crate::perform::perform;
 use crate::stages::Stages;
 use crate::told::{Told, tell_all};
@@ -14,21 +15,23 @@ use tx_text::Broken;
 
 /// Does what is asked over an input and an output. What was written is handed on each time before
 /// more of the input is read.
-pub(crate) fn answer<R, I, O>(
+pub(crate) fn answer<R, M, I, O>(
     rt: &R,
+    more: &M,
     asked: &Invocation<'_>,
     input: I,
     output: O,
 ) -> Result<CommandEnd, Stopped>
 where
     R: AllocGlobal + Threads + Wait + Sync + Send + Clone + Drop,
+    M: MoreCommands,
     I: Read + Drop,
     O: Write + Drop,
 {
     let (read, written) = (Cell::new(None), Cell::new(None));
     let input = Failing::new(input, &read);
     let output = Failing::new(output, &written);
-    let ended = answer_over(rt, asked, input, output);
+    let ended = answer_over(rt, more, asked, input, output);
     ended.map_err(|why| Stopped {
         why,
         cause: match why {
@@ -40,14 +43,16 @@ where
 }
 
 // Does it, over streams that note why they failed.
-fn answer_over<R, I, O>(
+fn answer_over<R, M, I, O>(
     rt: &R,
+    more: &M,
     asked: &Invocation<'_>,
     input: I,
     output: O,
 ) -> Result<CommandEnd, Broken>
 where
     R: AllocGlobal + Threads + Wait + Sync + Send + Clone + Drop,
+    M: MoreCommands,
     I: Read + Drop,
     O: Write + Drop,
 {
@@ -72,7 +77,15 @@ where
     };
     let mut writer = Noting::new(alloc, Shared::new(&shared));
     let mut stages = Stages::new(alloc);
-    let ended = perform(rt, asked, &mut reader, &mut writer, &mut stages, &copy);
+    let ended = perform(
+        rt,
+        more,
+        asked,
+        &mut reader,
+        &mut writer,
+        &mut stages,
+        &copy,
+    );
     if !asked.says_why() {
         let told = Told {
             faults: writer.faults(),

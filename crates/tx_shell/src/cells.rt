@@ -4,13 +4,11 @@ use std::io::{BufRead, Write};
 use std::sync::Wait;
 use std::thread::Threads;
 use tx_command::CellsKind;
-use tx_explain::{PictureOptions, ScriptStop, explain};
 use tx_flat::FlatCells;
 use tx_nested::NestedCells;
 use tx_run::{Plain, RunResult, Settings, run_script};
 use tx_sched::Gate;
 use tx_script::{Broken, End, SessionStage, simulate, simulate_checked, simulate_numbered};
-use tx_terminal::{converse, go_on};
 
 /// `txkv simulate`.
 pub(crate) fn simulate_over<B: BufRead, W: Write>(
@@ -23,32 +21,6 @@ pub(crate) fn simulate_over<B: BufRead, W: Write>(
     match cells {
         CellsKind::Flat => simulate::<FlatCells, _, _, _>(alloc, &Plain, reader, writer, stage),
         CellsKind::Nested => simulate::<NestedCells, _, _, _>(alloc, &Plain, reader, writer, stage),
-    }
-}
-
-/// `txkv simulate` at a terminal.
-pub(crate) fn converse_over<B: BufRead, W: Write>(
-    host: HostRuntime,
-    cells: CellsKind,
-    reader: &mut B,
-    writer: &mut W,
-) -> Result<End, Broken> {
-    match cells {
-        CellsKind::Flat => converse::<FlatCells, _, _>(host, reader, writer),
-        CellsKind::Nested => converse::<NestedCells, _, _>(host, reader, writer),
-    }
-}
-
-/// `txkv simulate --go-on`.
-pub(crate) fn go_on_over<B: BufRead, W: Write>(
-    host: HostRuntime,
-    cells: CellsKind,
-    reader: &mut B,
-    writer: &mut W,
-) -> Result<End, Broken> {
-    match cells {
-        CellsKind::Flat => go_on::<FlatCells, _, _>(host, reader, writer),
-        CellsKind::Nested => go_on::<NestedCells, _, _>(host, reader, writer),
     }
 }
 
@@ -84,25 +56,6 @@ pub(crate) fn simulate_numbered_over<B: BufRead, W: Write>(
         ),
         CellsKind::Nested => simulate_numbered::<NestedCells, _, _, _>(
             alloc, &Plain, reader, writer, stage,
-        ),
-    }
-}
-
-/// `txkv explain`.
-pub(crate) fn explain_over<B: BufRead, W: Write>(
-    alloc: Global,
-    cells: CellsKind,
-    options: PictureOptions,
-    reader: &mut B,
-    writer: &mut W,
-    stop: &mut Option<ScriptStop>,
-) -> Result<End, Broken> {
-    match cells {
-        CellsKind::Flat => explain::<FlatCells, _, _, _>(
-            alloc, &Plain, options, reader, writer, stop,
-        ),
-        CellsKind::Nested => explain::<NestedCells, _, _, _>(
-            alloc, &Plain, options, reader, writer, stop,
         ),
     }
 }

@@ -1,7 +1,7 @@
 //! The transaction layer at a shell. `tx_command` reads the words of the command line, `tx_streams`
 //! has the streams that answer as they are asked, `tx_sentences` says why a line is a fault; what a
 //! command does stands in `tx_script`, `tx_check` and `tx_run`. Here they meet, and how a command
-//! ended becomes a status.
+//! ended becomes a status. Pictures, and talks at a terminal, a program brings along.
 #![tactic(auto)]
 
 mod answer;
@@ -9,9 +9,9 @@ mod asked;
 mod cells;
 mod checked;
 mod counter;
-mod explained;
 mod failure;
 mod generated;
+mod more;
 mod perform;
 mod program;
 mod reduced;
@@ -19,4 +19,5 @@ mod stages;
 mod stats;
 mod told;
 
+pub use more::MoreCommands;
 pub use program::txkv;

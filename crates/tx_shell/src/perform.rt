@@ -1,10 +1,10 @@
 //! What each command does with its input.
 use crate::asked::Invocation;
-use crate::cells::{converse_over, go_on_over, run_over, simulate_checked_over, simulate_over};
+use crate::cells::{run_over, simulate_checked_over, simulate_over};
 use crate::checked::steps_over;
 use crate::counter::Watching;
-use crate::explained::explain_part;
 use crate::generated::generate_script;
+use crate::more::MoreCommands;
 use crate::reduced::reduce_script;
 use crate::stages::Stages;
 use crate::stats::stats_of;
@@ -111,8 +111,9 @@ fn judge<I: BufRead, O: Write>(
 }
 
 // Plays or checks what is asked over these streams, but for histories.
-fn play<R, I, O>(
+fn play<R, M, I, O>(
     rt: &R,
+    more: &M,
     asked: &Invocation<'_>,
     reader: &mut I,
     writer: &mut O,
@@ -121,6 +122,7 @@ fn play<R, I, O>(
 ) -> Result<End, Broken>
 where
     R: AllocGlobal + Threads + Wait + Sync + Send + Clone + Drop,
+    M: MoreCommands,
     I: BufRead,
     O: Write,
 {
@@ -128,9 +130,9 @@ where
     let cells = asked.job.cells;
     match asked.job.task {
         CommandTask::Simulate | CommandTask::SimulateOn if asked.is_talk() => {
-            converse_over(asked.host, cells, reader, writer)
+            more.converse(asked.host, cells, reader, writer)
         },
-        CommandTask::SimulateOn => go_on_over(asked.host, cells, reader, writer),
+        CommandTask::SimulateOn => more.go_on(asked.host, cells, reader, writer),
         CommandTask::Simulate => simulate_over(alloc, cells, reader, writer, &mut stages.script),
         CommandTask::SimulateChecked => {
             simulate_checked_over(alloc, cells, reader, writer, &mut stages.script)
@@ -141,7 +143,16 @@ where
         CommandTask::SimulateBeside => {
             steps_over(alloc, cells, true, reader, writer, stages, copy)
         }
-        CommandTask::Explain(told) => explain_part(asked, told, reader, writer, &mut stages.stop),
+        CommandTask::Explain(told) => {
+            more.explain(
+                asked.host,
+                asked.job,
+                told,
+                reader,
+                writer,
+                &mut stages.stop,
+            )
+        }
         CommandTask::Generate(told) => generate_script(alloc, told, writer),
         CommandTask::Reduce => reduce_script(asked, reader, writer),
         CommandTask::Check | CommandTask::Import(_) => check(alloc, reader, writer),
@@ -157,8 +168,9 @@ where
 /// Does what is asked over these streams. Where a script stops at a step that its session may not
 /// make, or sessions of a run do, `stages` says how far they are. `copy` has what was read of it so
 /// far, as much as is kept.
-pub(crate) fn perform<R, I, O>(
+pub(crate) fn perform<R, M, I, O>(
     rt: &R,
+    more: &M,
     asked: &Invocation<'_>,
     reader: &mut I,
     writer: &mut O,
@@ -167,6 +179,7 @@ pub(crate) fn perform<R, I, O>(
 ) -> Result<CommandEnd, Broken>
 where
     R: AllocGlobal + Threads + Wait + Sync + Send + Clone + Drop,
+    M: MoreCommands,
     I: BufRead,
     O: Write,
 {
@@ -181,6 +194,6 @@ where
             };
             judge(asked, options, reader, writer)
         }
-        _ => Ok(CommandEnd::of(play(rt, asked, reader, writer, stages, copy)?)),
+        _ => Ok(CommandEnd::of(play(rt, more, asked, reader, writer, stages, copy)?)),
     }
 }

@@ -2,6 +2,7 @@
 use crate::answer::answer;
 use crate::asked::Invocation;
 use crate::failure::Stopped;
+use crate::more::MoreCommands;
 use clap::error::ErrorKind;
 use std::env::Env;
 use std::io::IsTerminal;
@@ -19,15 +20,16 @@ use tx_streams::ProgressLine;
 use tx_text::Broken;
 
 // Does what is asked over the input that is named.
-fn run<R>(rt: &R, asked: &Invocation<'_>) -> Result<CommandEnd, Stopped>
+fn run<R, M>(rt: &R, more: &M, asked: &Invocation<'_>) -> Result<CommandEnd, Stopped>
 where
     R: Input + Files + Print + Eprint + AllocGlobal + Threads + Wait + Sync + Send + Clone + Drop,
+    M: MoreCommands,
 {
     let Some(name) = asked.job.file else {
-        return answer(rt, asked, rt.reader(), io::writer(rt));
+        return answer(rt, more, asked, rt.reader(), io::writer(rt));
     };
     match fs::open(rt, name) {
-        Ok(file) => answer(rt, asked, file, io::writer(rt)),
+        Ok(file) => answer(rt, more, asked, file, io::writer(rt)),
         Err(error) => Err(Stopped {
             why: Broken::Input,
             cause: Some(error),
@@ -138,9 +140,15 @@ fn unread<R: Eprint + AllocGlobal>(rt: &R, error: &io::Error) -> Result<CommandE
 }
 
 // Does a job, and shows on standard error what is to be seen of it meanwhile.
-fn start<R>(rt: &R, host: HostRuntime, job: CommandLine<'_>) -> Result<CommandEnd, Broken>
+fn start<R, M>(
+    rt: &R,
+    more: &M,
+    host: HostRuntime,
+    job: CommandLine<'_>,
+) -> Result<CommandEnd, Broken>
 where
     R: Input + Files + Print + Eprint + AllocGlobal + Threads + Wait + Sync + Send + Clone + Drop,
+    M: MoreCommands,
 {
     let terminals = Terminals {
         input: host.stdin().is_terminal(),
@@ -155,7 +163,7 @@ where
         prompts: shown == Display::Prompts,
         progress: &progress,
     };
-    match run(rt, &asked) {
+    match run(rt, more, &asked) {
         Ok(end) => Ok(end),
         Err(stopped) => {
             warn(rt, job.file, stopped);
@@ -164,18 +172,20 @@ where
     }
 }
 
-/// The program `txkv`, by the words that it was called with and over its standard streams.
-pub fn txkv<R>(rt: &R, host: HostRuntime) -> ExitCode
+/// The program `txkv`, by the words that it was called with and over its standard streams, with the
+/// commands that `more` has.
+pub fn txkv<R, M>(rt: &R, more: &M, host: HostRuntime) -> ExitCode
 where
     R: Env + Input + Files + Print + Eprint + AllocGlobal + Threads + Wait,
     R: Sync + Send + Clone + Drop,
+    M: MoreCommands,
 {
     let words = words(rt);
     let width = width(rt);
     let end = match words {
         Err(error) => unread(rt, &error),
         Ok(words) => match parse(rt.alloc(), words.as_slice(), width) {
-            Ok(matches) => start(rt, host, job_of(&matches)),
+            Ok(matches) => start(rt, more, host, job_of(&matches)),
             Err(error) => report(rt, &error, width),
         },
     };

@@ -1,21 +1,12 @@
 //! A script made shorter, as a command line asks for it.
 use crate::asked::Invocation;
-use std::io::{BufRead, ErrorKind, Write};
+use std::io::{BufRead, Write};
 use tx_cells::Plain;
+use tx_film::read_all;
 use tx_flat::FlatCells;
 use tx_hints::escaped;
 use tx_reduce::reduce;
 use tx_text::{Broken, End, finish, send};
-
-/// Reads all that is left.
-pub(crate) fn read_all<I: BufRead>(host: HostRuntime, reader: &mut I) -> Result<Vec<u8>, Broken> {
-    let mut text = Vec::new(host.alloc());
-    match reader.read_to_end(&mut text) {
-        Ok(_) => Ok(text),
-        Err(error) if error.kind() == ErrorKind::OutOfMemory => Err(Broken::Memory),
-        Err(_) => Err(Broken::Input),
-    }
-}
 
 /// `txkv reduce`: the families over which a script is tried make no difference to its replies.
 pub(crate) fn reduce_script<I: BufRead, O: Write>(
@@ -24,7 +15,7 @@ pub(crate) fn reduce_script<I: BufRead, O: Write>(
     writer: &mut O,
 ) -> Result<End, Broken> {
     let host = asked.host;
-    let script = read_all(host, reader)?;
+    let script = read_all(host.alloc(), reader)?;
     let keep = asked.job.keep.as_bytes();
     match reduce::<FlatCells, _>(host.alloc(), &Plain, script.as_slice(), keep)? {
         Some(shorter) => {

@@ -1,6 +1,6 @@
 //! How far sessions were of a step that was not their next.
 use std::alloc::Global;
-use tx_explain::ScriptStop;
+use tx_film::ScriptStop;
 use tx_run::SessionStage;
 
 /// How far the session was that stopped a script, and, with the numbers of their lines, how far

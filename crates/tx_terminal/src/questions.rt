@@ -1,11 +1,11 @@
 //! What is asked at a terminal between two lines of a script.
+use crate::asks::Answers;
 use memchr::memchr;
 use std::alloc::{AllocError, Global};
 use std::io::Write;
 use tx_cells::Fresh;
 use tx_command::{SIMULATE_HELP, topic};
-use tx_explain::{PictureOptions, RunQuestion, answer, explain};
-use tx_film::{keys_of, lines_of};
+use tx_film::{RunQuestion, keys_of, lines_of};
 use tx_hints::escaped;
 use tx_script::{Broken, Plain, simulate, simulate_checked};
 use tx_steps::{Line, Op, Program, Step};
@@ -218,14 +218,6 @@ fn sessions<F: Fresh>(alloc: Global, script: &[u8]) -> Result<Vec<u8>, Broken> {
     Ok(out)
 }
 
-// The run so far.
-fn picture<F: Fresh>(alloc: Global, script: &[u8]) -> Result<Vec<u8>, Broken> {
-    let mut out = Vec::new(alloc);
-    let options = PictureOptions::TEXT;
-    explain::<F, _, _, _>(alloc, &Plain, options, &mut &*script, &mut out, &mut None)?;
-    Ok(out)
-}
-
 // What is known of a word, or with none, of all steps; and the questions.
 fn help(alloc: Global, word: &str) -> Result<Vec<u8>, Broken> {
     if !word.is_empty() && !word.starts_with(':') {
@@ -241,8 +233,9 @@ fn help(alloc: Global, word: &str) -> Result<Vec<u8>, Broken> {
 }
 
 /// Answers what is asked after these lines.
-pub(crate) fn answer_question<F: Fresh, O: Write>(
+pub(crate) fn answer_question<F: Fresh, O: Write, A: Answers>(
     alloc: Global,
+    answers: &A,
     line: &[u8],
     script: &[u8],
     writer: &mut O,
@@ -252,12 +245,12 @@ pub(crate) fn answer_question<F: Fresh, O: Write>(
     let text = match word {
         ":keys" => keys::<F>(alloc, script)?,
         ":sessions" => sessions::<F>(alloc, script)?,
-        ":held" => answer::<F, _>(alloc, &Plain, RunQuestion::Held, script)?,
-        ":why" => answer::<F, _>(alloc, &Plain, RunQuestion::Why, script)?,
+        ":held" => answers.answer::<F>(alloc, RunQuestion::Held, script)?,
+        ":why" => answers.answer::<F>(alloc, RunQuestion::Why, script)?,
         ":steps" => steps::<F>(alloc, script)?,
-        ":machine" => answer::<F, _>(alloc, &Plain, RunQuestion::Machine, script)?,
+        ":machine" => answers.answer::<F>(alloc, RunQuestion::Machine, script)?,
         ":script" => script.to_vec(alloc)?,
-        ":explain" => picture::<F>(alloc, script)?,
+        ":explain" => answers.picture::<F>(alloc, script)?,
         "help" | ":help" | "?" => help(alloc, rest.trim())?,
         other => help(alloc, other)?,
     };

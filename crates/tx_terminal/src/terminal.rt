@@ -5,6 +5,7 @@ ghost use Rattle.tx_types.specs.declared.limits.TheConstants as limits;
 ghost use Rattle.tx_cells.specs.Contents.{nothing_held};
 ghost use Rattle.tx_script.specs.Players.{IsPlayer};
 
+use crate::asks::Answers;
 use crate::files::{read_file, write_file};
 use crate::questions::{Asked, answer_question, asked_of};
 use crate::told::{tell_fault, tell_undeclared};
@@ -35,8 +36,10 @@ enum Typed {
 
 // What is typed, and what is shown.
 #[derive(Drop)]
-struct Terminal<'a, I, O> {
+struct Terminal<'a, I, O, A> {
     host: HostRuntime,
+    // What answers questions on the run.
+    answers: &'a A,
     reader: &'a mut I,
     writer: &'a mut O,
     // The line that was typed last.
@@ -53,11 +56,17 @@ struct Terminal<'a, I, O> {
     silent: u64,
 }
 
-impl<'a, I: BufRead, O: Write> Terminal<'a, I, O> {
+impl<'a, I: BufRead, O: Write, A: Answers> Terminal<'a, I, O, A> {
     // Nothing was typed yet.
-    fn new(host: HostRuntime, reader: &'a mut I, writer: &'a mut O) -> Terminal<'a, I, O> {
+    fn new(
+        host: HostRuntime,
+        answers: &'a A,
+        reader: &'a mut I,
+        writer: &'a mut O,
+    ) -> Terminal<'a, I, O, A> {
         Terminal {
             host,
+            answers,
             reader,
             writer,
             line: Vec::new(host.alloc()),
@@ -153,8 +162,9 @@ impl<'a, I: BufRead, O: Write> Terminal<'a, I, O> {
             Asked::Read(name) => self.read_script(name)?,
             Asked::Write(name) => write_file(self.host, name, self.script.as_slice()),
             Asked::Question => {
-                let script = self.script.as_slice();
-                answer_question::<F, _>(self.host.alloc(), line.as_slice(), script, self.writer)?;
+                let (alloc, script) = (self.host.alloc(), self.script.as_slice());
+                let asked = line.as_slice();
+                answer_question::<F, _, _>(alloc, self.answers, asked, script, self.writer)?;
             }
             Asked::Step => {
                 self.spell_out(number)?;
@@ -298,18 +308,20 @@ impl<'a, I: BufRead, O: Write> Terminal<'a, I, O> {
 /// is replied to as `simulate` does. One that is a fault is told, on standard error why, and the
 /// next one is read in its place, with its number; it leaves all as it was. Empty lines and
 /// comments are passed over. A step may be typed in words. Between two lines questions are
-/// answered, lines are taken back, and files read and written; `:help` tells of all.
+/// answered, those on the whole run by `answers`, lines are taken back, and files read and written;
+/// `:help` tells of all.
 ///
 /// Well where the input ended or `:quit` was typed, whatever was a fault; `Faulted` after a line
 /// that is too long, of which what is left is not read. `Input` where a read failed, `Output` where
 /// a write or the flush failed, `Memory` where a growth was refused outside of a step's own calls.
-pub fn converse<F: Fresh, I: BufRead, O: Write>(
+pub fn converse<F: Fresh, I: BufRead, O: Write, A: Answers>(
     host: HostRuntime,
+    answers: &A,
     reader: &mut I,
     writer: &mut O,
 ) -> Result<End, Broken> {
     let _ = eprintln!(host; "Type steps, as A begin, A put a x; :help tells of all, :quit leaves.");
-    let typed = Terminal::new(host, reader, writer).converse::<F>()?;
+    let typed = Terminal::new(host, answers, reader, writer).converse::<F>()?;
     finish(writer)?;
     match typed {
         Typed::Long => Ok(End::Faulted),

@@ -1,9 +1,13 @@
 //! `txkv`, the transaction layer at a shell.
 #![tactic(auto)]
 
+mod explained;
+mod pictures;
+
+use crate::pictures::Pictures;
 use std::process::ExitCode;
 use tx_shell::txkv;
 
 fn main(rt: HostRuntime) -> ExitCode {
-    txkv(&rt, rt)
+    txkv(&rt, &Pictures, rt)
 }

@@ -1,13 +1,14 @@
 //! The picture of a run, as a command line asks for it.
-use crate::asked::Invocation;
-use crate::cells::explain_over;
-use crate::reduced::read_all;
 use std::alloc::{AllocError, Global};
 use std::io::{BufRead, Write};
-use tx_command::ExplainOptions;
+use tx_cells::Plain;
+use tx_command::{CellsKind, CommandLine, ExplainOptions};
 use tx_cut::Cut;
-use tx_explain::{MissingName, PictureForm, PictureOptions, ScriptStop, missing_in};
+use tx_explain::{MissingName, PictureForm, PictureOptions, explain, missing_in};
+use tx_film::{ScriptStop, read_all};
+use tx_flat::FlatCells;
 use tx_hints::escaped;
+use tx_nested::NestedCells;
 use tx_text::{Broken, End};
 
 // What a picture is asked to be.
@@ -44,40 +45,60 @@ fn tell_missing(host: HostRuntime, missing: MissingName<'_>) {
     }
 }
 
-// The picture of a script some of whose keys or sessions are named: those it has to have.
-fn explain_named<I: BufRead, O: Write>(
-    asked: &Invocation<'_>,
+// The picture of a script, over families of this kind.
+fn explain_over<I: BufRead, O: Write>(
+    alloc: Global,
+    cells: CellsKind,
     options: PictureOptions<'_>,
     reader: &mut I,
     writer: &mut O,
     stop: &mut Option<ScriptStop>,
 ) -> Result<End, Broken> {
-    let alloc = asked.host.alloc();
-    let script = read_all(asked.host, reader)?;
+    match cells {
+        CellsKind::Flat => explain::<FlatCells, _, _, _>(
+            alloc, &Plain, options, reader, writer, stop,
+        ),
+        CellsKind::Nested => explain::<NestedCells, _, _, _>(
+            alloc, &Plain, options, reader, writer, stop,
+        ),
+    }
+}
+
+// The picture of a script some of whose keys or sessions are named: those it has to have.
+fn explain_named<I: BufRead, O: Write>(
+    host: HostRuntime,
+    cells: CellsKind,
+    options: PictureOptions<'_>,
+    reader: &mut I,
+    writer: &mut O,
+    stop: &mut Option<ScriptStop>,
+) -> Result<End, Broken> {
+    let alloc = host.alloc();
+    let script = read_all(alloc, reader)?;
     if let Some(missing) = missing_in(alloc, script.as_slice(), options.cut)? {
-        tell_missing(asked.host, missing);
+        tell_missing(host, missing);
         return Ok(End::Faulted);
     }
     let mut script = script.as_slice();
-    explain_over(alloc, asked.job.cells, options, &mut script, writer, stop)
+    explain_over(alloc, cells, options, &mut script, writer, stop)
 }
 
 /// `txkv explain`: what a command line names that the script does not have is its fault.
 pub(crate) fn explain_part<I: BufRead, O: Write>(
-    asked: &Invocation<'_>,
+    host: HostRuntime,
+    job: CommandLine<'_>,
     told: ExplainOptions,
     reader: &mut I,
     writer: &mut O,
     stop: &mut Option<ScriptStop>,
 ) -> Result<End, Broken> {
-    let host = asked.host;
     let (from, to) = (told.from, told.to.unwrap_or(u64::MAX));
     if to < from {
         let _ = eprintln!(host; "error: '--from {from}' is above '--to {to}'");
         return Ok(End::Faulted);
     }
-    let keys = names_in(host.alloc(), asked.job.keys)?;
-    let sessions = names_in(host.alloc(), asked.job.sessions)?;
+    let keys = names_in(host.alloc(), job.keys)?;
+    let sessions = names_in(host.alloc(), job.sessions)?;
     let options = PictureOptions {
         form: form_asked(told),
         machine: told.machine,
@@ -90,8 +111,7 @@ pub(crate) fn explain_part<I: BufRead, O: Write>(
         },
     };
     if options.cut.has_names() {
-        return explain_named(asked, options, reader, writer, stop);
+        return explain_named(host, job.cells, options, reader, writer, stop);
     }
-    let alloc = host.alloc();
-    explain_over(alloc, asked.job.cells, options, reader, writer, stop)
+    explain_over(host.alloc(), job.cells, options, reader, writer, stop)
 }

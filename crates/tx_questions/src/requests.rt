@@ -2,10 +2,9 @@
 use crate::words::put_line;
 use std::alloc::{AllocError, Global};
 use tx_core::{Body, Target};
-use tx_film::{Film, Frame};
-use tx_script::{Broken, bounds_in};
+use tx_film::{Film, Frame, bounds_in};
 use tx_steps::{Delivery, Line, Program, Step};
-use tx_text::{Parts, put_digits, put_string};
+use tx_text::{Broken, Parts, put_digits, put_string};
 use tx_types::Key;
 
 // A request that is held and was not delivered yet: its name, the place of the line that sent it,

@@ -1,8 +1,7 @@
 //! What the machine reads that commits each transaction in one step.
 use std::alloc::{AllocError, Global};
 use tx_machine::{Machine, Refused, SeenValue, Step, Why};
-use tx_script::Broken;
-use tx_text::{put_digits, put_string};
+use tx_text::{Broken, put_digits, put_string};
 use tx_types::{Key, Ts, Value};
 
 // Has the machine make the steps of a run: the last timestamp that is drawn.

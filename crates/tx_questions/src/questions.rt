@@ -4,21 +4,8 @@ use crate::refusal::last_refusal;
 use crate::requests::requests_held;
 use std::alloc::Global;
 use tx_cells::{Families, Makes};
-use tx_film::{film_lines, keys_of, lines_of};
-use tx_script::Broken;
-
-/// A question on a run.
-#[derive(Clone, Copy, Debug, PartialEq, Eq)]
-pub enum RunQuestion {
-    /// Which requests are held under a name and were not delivered yet, where each goes, and which
-    /// line sent it.
-    Held,
-    /// What a transaction that begins now would read, of the machine that commits each in one step.
-    Machine,
-    /// Which line was the last that was refused, told to wait or left without an answer, what it
-    /// met, and which line had made that.
-    Why,
-}
+use tx_film::{RunQuestion, film_lines, keys_of, lines_of};
+use tx_text::Broken;
 
 /// Plays a script as `simulate` does, up to a fault, and answers a question on where it then
 /// stands, in lines of text. `Memory` where a growth was refused outside of a step's own calls.

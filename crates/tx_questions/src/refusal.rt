@@ -5,9 +5,8 @@ use std::alloc::{AllocError, Global};
 use tx_client::Status;
 use tx_film::{Film, Frame};
 use tx_reply::ScriptReply;
-use tx_script::Broken;
 use tx_sheet::{Row, Sending, sheet_of};
-use tx_text::put_string;
+use tx_text::{Broken, put_string};
 use tx_types::Key;
 
 // Whether a line was refused, told to wait or left without an answer.
