@@ -2,7 +2,7 @@
 use crate::cells::{CellsKind, cells_of, cells_option};
 use crate::generated::{GenerateOptions, generate, generate_options};
 use crate::help;
-use crate::level::{LevelKind, level_of, level_option};
+use crate::histories::{ImportOptions, import, import_options};
 use crate::picture::{ExplainOptions, explain, explain_options};
 use crate::samples::SAMPLE_NAMES;
 use crate::topics::REFUSAL_NAMES;
@@ -14,11 +14,6 @@ use tx_types::limits::MAX_WORKERS;
 
 /// The longest that a version may be kept, in ticks: as long as all timestamps last.
 const MAX_LIFE_TIME: u64 = 4_398_046_511_104;
-
-// How many cycles a search may meet, where that is not told, and at most.
-const BUDGET: u64 = 20_000;
-
-const MAX_BUDGET: u64 = 1_000_000_000;
 
 /// What is done with the input.
 #[derive(Clone, Copy, Debug, PartialEq, Eq)]
@@ -70,27 +65,6 @@ impl CommandTask {
     }
 }
 
-/// What is asked of a history.
-#[derive(Clone, Copy, Debug, PartialEq, Eq)]
-pub struct ImportOptions {
-    /// What its reads and writes are to be.
-    pub level: LevelKind,
-    /// Whether each process saw what it had done.
-    pub sessions: bool,
-    /// Whether what began after another had ended came after it.
-    pub strict: bool,
-    /// Whether a yes is told by a trace.
-    pub trace: bool,
-    /// Whether a cycle is written for Graphviz.
-    pub dot: bool,
-    /// Whether a cycle is drawn, as an SVG.
-    pub svg: bool,
-    /// Whether it goes on after a no.
-    pub all: bool,
-    /// How many cycles a search for an order may meet.
-    pub budget: u64,
-}
-
 /// What the command line asks for.
 #[derive(Clone, Copy, Debug, PartialEq, Eq)]
 pub struct CommandLine<'a> {
@@ -123,16 +97,7 @@ fn task_of(name: &str, asked: &ArgMatches<'_>) -> CommandTask {
         "simulate" if asked.get_flag("beside") => CommandTask::SimulateBeside,
         "simulate" if asked.get_flag("steps") => CommandTask::SimulateSteps,
         "simulate" => CommandTask::Simulate,
-        "import" => CommandTask::Import(ImportOptions {
-            level: level_of(asked),
-            sessions: asked.get_flag("sessions"),
-            strict: asked.get_flag("strict"),
-            trace: asked.get_flag("trace"),
-            dot: asked.get_flag("dot"),
-            svg: asked.get_flag("svg"),
-            all: asked.get_flag("all"),
-            budget: asked.get_one::<u64>("budget").unwrap_or(BUDGET),
-        }),
+        "import" => CommandTask::Import(import_options(asked)),
         "generate" => CommandTask::Generate(generate_options(asked)),
         "reduce" => CommandTask::Reduce,
         "explain" => CommandTask::Explain(explain_options(asked)),
@@ -295,44 +260,6 @@ fn run<'a>(alloc: Global) -> Result<Command<'a>, AllocError> {
         .arg(flag(alloc, "stats", stats))?
         .arg(comments(alloc))?
         .arg(cells_option(alloc))?
-        .arg(file(alloc))
-}
-
-// A drawing of a no.
-fn drawing_of_no<'a>(alloc: Global) -> Result<Arg<'a>, AllocError> {
-    let help = "Draws a no, an SVG, in place of its line";
-    flag(alloc, "svg", help)
-        .conflicts_with("dot")?
-        .conflicts_with("all")
-}
-
-// How long a search may go on.
-fn budget<'a>(alloc: Global) -> Arg<'a> {
-    Arg::new(alloc, "budget")
-        .long("budget")
-        .value_name("N")
-        .help("How many circles a search for an order may meet, 20000 unless told, some seconds")
-        .value_parser(ValueParser::Unsigned(0, MAX_BUDGET))
-}
-
-fn import<'a>(alloc: Global) -> Result<Command<'a>, AllocError> {
-    let sessions = "Asks as well that each process sees what it did before";
-    let strict = "Asks as well that what began after another had ended comes after it";
-    let trace = "Writes a yes as a trace that txkv check judges, in place of its line";
-    let dot = "Writes a no for Graphviz, in place of its line";
-    let all = "Goes on after a no, as if nobody knew what its transactions had read";
-    let command = Command::new(alloc, "import")
-        .about(help::IMPORT_ABOUT)
-        .after_help(help::IMPORT_HELP)
-        .arg(level_option(alloc))?
-        .arg(flag(alloc, "sessions", sessions))?
-        .arg(flag(alloc, "strict", strict))?
-        .arg(flag(alloc, "trace", trace))?
-        .arg(flag(alloc, "dot", dot))?;
-    let command = with(command, drawing_of_no(alloc))?;
-    command
-        .arg(flag(alloc, "all", all))?
-        .arg(budget(alloc))?
         .arg(file(alloc))
 }
 

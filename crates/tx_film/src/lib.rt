@@ -11,6 +11,7 @@ mod lines;
 mod question;
 mod said;
 mod stop;
+mod touched;
 
 pub use film::film_lines;
 pub use frame::{Film, Frame, KeyShown};

@@ -4,11 +4,9 @@ ghost use Rattle.tx_history.specs.Records.{IsRecorded};
 
 use crate::net::Line;
 use crate::pairs::opposite;
-use crate::rounds::{
-    Book, Chosen, Trail, all_shown, first_of, from_transaction, last_of, places_of, settled_of,
-    trail_of,
-};
+use crate::rounds::{all_shown, from_transaction, places_of, settled_of};
 use crate::solver::{Clash, Learned, Left, Solver};
+use crate::trail::{Book, Chosen, Trail, first_of, last_of, trail_of};
 use std::alloc::{AllocError, Global};
 use tx_chains::{number, put_at};
 use tx_verdict::{Behind, Edge, Ground, Hint, Lemma, Order, Refutation, Versions};

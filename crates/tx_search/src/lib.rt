@@ -11,6 +11,7 @@ mod pairs;
 mod rounds;
 mod searched;
 mod solver;
+mod trail;
 
 pub use rounds::refutation_of;
 pub use searched::{Sought, search};
