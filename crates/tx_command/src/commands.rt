@@ -1,6 +1,6 @@
 //! The commands of the program, and what a command line asks for.
 use crate::cells::{CellsKind, cells_of, cells_option};
-use crate::generated::{GenerateOptions, generate, generate_options};
+use crate::generate::{GenerateOptions, generate, generate_options};
 use crate::help;
 use crate::histories::{ImportOptions, import, import_options};
 use crate::picture::{ExplainOptions, explain, explain_options};

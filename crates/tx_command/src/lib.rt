@@ -4,12 +4,12 @@
 
 mod cells;
 mod commands;
-mod generated;
+mod display;
+mod generate;
 mod help;
 mod histories;
 mod picture;
 mod samples;
-mod shown;
 mod stats;
 mod status;
 mod topics;
@@ -17,11 +17,11 @@ mod words;
 
 pub use cells::{CellsKind, cells_of, cells_option};
 pub use commands::{CommandLine, CommandTask, job_of};
-pub use generated::GenerateOptions;
+pub use display::{Display, Terminals, shown_at};
+pub use generate::GenerateOptions;
 pub use help::{REFUSALS, SIMULATE_HELP};
 pub use histories::{ImportOptions, LevelKind};
 pub use picture::ExplainOptions;
-pub use shown::{Display, Terminals, shown_at};
 pub use stats::Stats;
 pub use status::{CommandEnd, message_of, status_of};
 pub use topics::topic;

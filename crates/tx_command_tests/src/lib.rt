@@ -4,16 +4,16 @@
 #[cfg(test)]
 mod command_lines;
 #[cfg(test)]
-mod generated;
+mod display;
+#[cfg(test)]
+mod generate;
+#[cfg(test)]
+mod notes;
 #[cfg(test)]
 mod pictures;
 #[cfg(test)]
 mod sentences;
 #[cfg(test)]
-mod shown;
-#[cfg(test)]
 mod streams;
-#[cfg(test)]
-mod told;
 #[cfg(test)]
 mod typed;

@@ -1,10 +1,10 @@
 //! A command over an input and an output: what was written is handed on before more is read.
-use crate::asked::Invocation;
 use crate::failure::{Failing, Stopped};
+use crate::invocation::Invocation;
 use crate::more::MoreCommands;
+use crate::notes::{Told, tell_all};
 use crate::perform::perform;
 use crate::stages::Stages;
-use crate::told::{Told, tell_all};
 use std::cell::{Cell, RefCell};
 use std::io::{BufWriter, Read, Write};
 use std::sync::Wait;

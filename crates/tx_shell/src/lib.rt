@@ -5,19 +5,19 @@
 #![tactic(auto)]
 
 mod answer;
-mod asked;
 mod cells;
-mod checked;
 mod counter;
 mod failure;
-mod generated;
+mod generate;
+mod invocation;
 mod more;
+mod notes;
 mod perform;
 mod program;
-mod reduced;
+mod reduce;
 mod stages;
 mod stats;
-mod told;
+mod steps;
 
 pub use more::MoreCommands;
 pub use program::txkv;

@@ -1,13 +1,13 @@
 //! What each command does with its input.
-use crate::asked::Invocation;
 use crate::cells::{run_over, simulate_checked_over, simulate_over};
-use crate::checked::steps_over;
 use crate::counter::Watching;
-use crate::generated::generate_script;
+use crate::generate::generate_script;
+use crate::invocation::Invocation;
 use crate::more::MoreCommands;
-use crate::reduced::reduce_script;
+use crate::reduce::reduce_script;
 use crate::stages::Stages;
 use crate::stats::stats_of;
+use crate::steps::steps_over;
 use std::cell::RefCell;
 use std::io::{BufRead, Write};
 use std::mem::swap;

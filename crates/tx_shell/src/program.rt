@@ -1,7 +1,7 @@
 //! The program: its words, its streams, and the status with which it ends.
 use crate::answer::answer;
-use crate::asked::Invocation;
 use crate::failure::Stopped;
+use crate::invocation::Invocation;
 use crate::more::MoreCommands;
 use clap::error::ErrorKind;
 use std::env::Env;

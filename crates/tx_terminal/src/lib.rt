@@ -3,13 +3,13 @@
 //! each line is answered, however many there are.
 #![tactic(auto)]
 
-mod asks;
+mod answers;
 mod files;
+mod notes;
 mod onward;
 mod questions;
 mod terminal;
-mod told;
 
-pub use asks::Answers;
+pub use answers::Answers;
 pub use onward::go_on;
 pub use terminal::converse;

@@ -4,7 +4,7 @@ ghost use Rattle.tx_types.specs.declared.limits.TheConstants as limits;
 ghost use Rattle.tx_cells.specs.Contents.{nothing_held};
 ghost use Rattle.tx_script.specs.Players.{IsPlayer};
 
-use crate::told::tell_why;
+use crate::notes::tell_why;
 use memchr::memchr;
 use std::io::{BufRead, ErrorKind, Write};
 use std::marker::Brand;

@@ -1,5 +1,5 @@
 //! What is asked at a terminal between two lines of a script.
-use crate::asks::Answers;
+use crate::answers::Answers;
 use memchr::memchr;
 use std::alloc::{AllocError, Global};
 use std::io::Write;

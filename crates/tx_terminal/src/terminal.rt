@@ -5,10 +5,10 @@ ghost use Rattle.tx_types.specs.declared.limits.TheConstants as limits;
 ghost use Rattle.tx_cells.specs.Contents.{nothing_held};
 ghost use Rattle.tx_script.specs.Players.{IsPlayer};
 
-use crate::asks::Answers;
+use crate::answers::Answers;
 use crate::files::{read_file, write_file};
+use crate::notes::{tell_fault, tell_undeclared};
 use crate::questions::{Asked, answer_question, asked_of};
-use crate::told::{tell_fault, tell_undeclared};
 use std::io::{BufRead, Write};
 use std::marker::Brand;
 use std::mem;

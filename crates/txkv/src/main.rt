@@ -1,7 +1,7 @@
 //! `txkv`, the transaction layer at a shell.
 #![tactic(auto)]
 
-mod explained;
+mod explain;
 mod pictures;
 
 use crate::pictures::Pictures;

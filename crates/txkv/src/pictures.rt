@@ -1,5 +1,5 @@
 //! The pictures and the talks of the program.
-use crate::explained::explain_part;
+use crate::explain::explain_part;
 use std::alloc::Global;
 use std::io::{BufRead, Write};
 use tx_cells::{Fresh, Plain};

@@ -1,7 +1,7 @@
 //! What is told on standard error behind what a command has written.
-use crate::asked::Invocation;
-use crate::checked::is_run_before;
+use crate::invocation::Invocation;
 use crate::stages::Stages;
+use crate::steps::is_run_before;
 use std::alloc::Global;
 use std::cell::RefCell;
 use tx_command::CommandTask;

@@ -1,6 +1,6 @@
 //! What a command line says of a script by chance.
 use crate::command_lines::asks_for;
-use crate::told::shown_for;
+use crate::notes::shown_for;
 use std::alloc::Global;
 use std::test::Fail;
 use tx_command::{

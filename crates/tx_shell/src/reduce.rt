@@ -1,5 +1,5 @@
 //! A script made shorter, as a command line asks for it.
-use crate::asked::Invocation;
+use crate::invocation::Invocation;
 use std::io::{BufRead, Write};
 use tx_cells::Plain;
 use tx_film::read_all;
