@@ -1,2 +1,2 @@
 -- Rows that are shown, one after another.
-pub mod Shown
+pub mod ShownRows

@@ -1,7 +1,7 @@
 use Rattle.std.proofs.Common.{◌++◌, ◌+◌, take, ap, ◌∙◌}
 use Rattle.tx_sheet.specs.declared.row.Row.{Row}
 use Rattle.tx_cut.specs.Parts.{if_shown, shown_behind}
-use Rattle.tx_cut.proofs.Shown.{shown_more}
+use Rattle.tx_cut.proofs.ShownRows.{shown_more}
 use Rattle.tx_cut.proofs.rows.rows_of.Goals as goal
 
 pub loop-place-preserved : goal.loop-place-preserved
