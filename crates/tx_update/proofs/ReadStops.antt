@@ -55,6 +55,8 @@ pub lock_stops : {T : Type 0} (loses : ℕ → Type 0) (l h : History) → Begin
     → r ≡ Ok (KeyIsLocked info) → key_of default ≡ info.key → key ≡ unwrap_or named default → told ≡ key_of key
     → IfOk r (TellsLock l start (option_map key_of named)) → IsReadStop loses h start (stop.Waits told why)
 lock_stops loses l h begins start key_of named default key r info told why answered own is same tells =
-    let lock = subst (λ r. IfOk r (TellsLock l start (option_map key_of named))) answered tells in
-    (info, locked_key key_of named default key info.key is own lock.0 ∙ sym same,
-    answered_on l h begins start (KeyIsLocked info) lock.1)
+    let lock = subst (λ r. IfOk r (TellsLock l start (option_map key_of named))) answered tells in (
+      info,
+      locked_key key_of named default key info.key is own lock.0 ∙ sym same,
+      answered_on l h begins start (KeyIsLocked info) lock.1,
+    )
