@@ -210,7 +210,8 @@ start_read : (s : SessionState) (c : Response) → (after_read s c).start ≡ s.
 start_read s (Err why) = refl
 start_read s (Ok a) = refl
 
-module _ {S : Type 0} (sends : S → Asked → Reached → S → Type 0) (n : ℕ) (h : History) (start : ℕ) (le : start ≤ n) where
+module _ {S : Type 0} (sends : S → Asked → Reached → S → Type 0) (n : ℕ) (h : History) (start : ℕ)
+    (le : start ≤ n) where
   missed : (b : Body) → IsReadAt start b → Loses sends b → LosesRead sends start
   missed b at (from, q, l, to, same, lost) = (from, q, l, to, subst (IsReadAt start) (sym same) at, lost)
 

@@ -42,10 +42,10 @@ abbrev pub IsOwnRefusal : Stop → Type 0
 IsOwnRefusal (stop.Refused f) = Unit {0}
 IsOwnRefusal _ = ⊥
 
--- Why a read of a transaction stops that began at this start, by what its seat has seen then, and by
--- where a read may be lost on its way: a read at the start was answered that a lock is in the way,
--- whose key is told, or that the safe point lies above the start; or a read at the start may be
--- lost; or memory was refused.
+-- Why a read of a transaction stops that began at this start, by what its seat has seen then, and
+-- by where a read may be lost on its way: a read at the start was answered that a lock is in the
+-- way, whose key is told, or that the safe point lies above the start; or a read at the start may
+-- be lost; or memory was refused.
 abbrev pub IsReadStop : (ℕ → Type 0) → History → ℕ → Stop → Type 0
 IsReadStop loses h start (stop.Waits key why) = (info : LockInfo) × (info.key ≡ key)
     × WasAnsweredAt h start (answer.KeyIsLocked info)
