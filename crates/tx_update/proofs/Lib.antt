@@ -8,6 +8,8 @@ pub mod Retries
 pub mod ReadAnswers
 -- What a session's reads are answered.
 pub mod ReadReplies
+-- By what a read stops.
+pub mod ReadStops
 -- The rows of pages are the rows of their range.
 pub mod Pages
 -- What was entered of keys, over rows.

@@ -1,19 +1,27 @@
 -- What a transaction that is lent finds where it reads.
-use Rattle.std.specs.Prelude.{◌≡◌, ◌≤◌, ℕ, cond, List, Option, Some, None}
+use Rattle.std.specs.Prelude.{◌≡◌, ◌<◌, ◌≤◌, ℕ, cond, List, Option, Some, None, Err, IfSome}
 use Rattle.tx_types.specs.declared.key.Key.{Key}
 use Rattle.tx_types.specs.declared.value.Value.{Value}
 use Rattle.tx_types.specs.declared.mutation.KeyValue.{KeyValue}
 use Rattle.tx_types.specs.declared.mutation.Mutation.{Mutation}
 use Rattle.tx_types.specs.declared.mutation.Mutation.TheVariants as mutation
 use Rattle.tx_types.specs.Keys.{is_scanned}
+use Rattle.tx_plan.specs.declared.body.Body.{Body}
+use Rattle.tx_plan.specs.declared.body.Body.TheVariants as body
 use Rattle.tx_plan.specs.declared.answer.Answer.{Answer}
 use Rattle.tx_plan.specs.declared.answer.Answer.TheVariants as answer
 use Rattle.tx_machine.specs.Machine.{Sees, SeesRows, table_of}
 use Rattle.tx_core.specs.Histories.{History, last, Begins}
 use Rattle.tx_core.specs.Shadow.{shadow}
 use Rattle.tx_core.specs.Worlds.{IsWorldRun}
+use Rattle.tx_journal.specs.declared.sender.Lost.{Lost}
+use Rattle.tx_journal.specs.Replies.{Asked}
+use Rattle.tx_journal.specs.Senders.{Reached}
+use Rattle.tx_transaction.specs.declared.state.Miss.{Miss}
+use Rattle.tx_transaction.specs.declared.state.Miss.TheVariants as miss
 use Rattle.tx_transaction.specs.Buffers.{Entries, buffered, is_known}
 use Rattle.tx_client.specs.Calls.{Seated}
+use Rattle.tx_client.specs.Facts.{WasAnswered}
 use Rattle.tx_laws.specs.Scans.{scan_at}
 use Rattle.tx_laws.specs.Rows.{AreRowsOf}
 use Rattle.tx_update.specs.Ranges.{is_in_range}
@@ -41,20 +49,53 @@ abbrev pub AnswersScan : History → ℕ → Key → Key → ℕ → Answer → 
 AnswersScan h start from to limit (answer.Rows rows) = FindsRows h start from to limit rows
 AnswersScan h start from to limit _ = Unit {0}
 
--- the answers that a read of a key may have: a value, none, a lock in the way, or the safe point
-abbrev pub IsGetAnswer : Answer → Type 0
-IsGetAnswer (answer.Found v) = Unit {0}
-IsGetAnswer answer.Nothing = Unit {0}
-IsGetAnswer (answer.KeyIsLocked info) = Unit {0}
-IsGetAnswer (answer.BelowSafePoint safe) = Unit {0}
-IsGetAnswer _ = ⊥
+-- a request that reads at a timestamp
+abbrev pub IsReadAt : ℕ → Body → Type 0
+IsReadAt at (body.Get b) = b.at ≡ at
+IsReadAt at (body.Scan b) = b.at ≡ at
+IsReadAt at _ = ⊥
 
--- the answers that a scan may have: rows, a lock in the way, or the safe point
-abbrev pub IsScanAnswer : Answer → Type 0
-IsScanAnswer (answer.Rows rows) = Unit {0}
-IsScanAnswer (answer.KeyIsLocked info) = Unit {0}
-IsScanAnswer (answer.BelowSafePoint safe) = Unit {0}
-IsScanAnswer _ = ⊥
+-- a read at a timestamp was answered so
+abbrev pub WasAnsweredAt : History → ℕ → Answer → Type 0
+WasAnsweredAt h at a = (b : Body) × IsReadAt at b × WasAnswered h b a
+
+-- a way to the regions may lose a read at a timestamp, or its reply
+abbrev pub LosesRead : {S : Type 0} → (S → Asked → Reached → S → Type 0) → ℕ → Type 0
+LosesRead {S} sends at = (from : S) × (q : Asked) × (l : Lost) × (to : S) × IsReadAt at q.body
+    × sends from q (Err l) to
+
+-- why a read at the start has no answer: it may be lost on its way, or memory was refused
+abbrev pub IsReadMiss : (ℕ → Type 0) → ℕ → Miss → Type 0
+IsReadMiss loses start miss.Lost = loses start
+IsReadMiss loses start miss.Fault = Unit {0}
+
+-- The answers that a read of a key at the start may have: a value, none, a lock of that key in the
+-- way, or a safe point above the start. A read at the start was answered so, in what is known then,
+-- where nothing is found.
+abbrev pub IsGetAnswer : History → ℕ → Key → Answer → Type 0
+IsGetAnswer h start key (answer.Found v) = Unit {0}
+IsGetAnswer h start key answer.Nothing = Unit {0}
+IsGetAnswer h start key (answer.KeyIsLocked info) = (info.key ≡ key)
+    × WasAnsweredAt h start (answer.KeyIsLocked info)
+IsGetAnswer h start key (answer.BelowSafePoint safe) = (start < safe)
+    × WasAnsweredAt h start (answer.BelowSafePoint safe)
+IsGetAnswer h start key _ = ⊥
+
+-- the answers that a scan at the start may have: rows, or what a read of a key may have where it
+-- finds nothing, but that the lock is of any key
+abbrev pub IsScanAnswer : History → ℕ → Answer → Type 0
+IsScanAnswer h start (answer.Rows rows) = Unit {0}
+IsScanAnswer h start (answer.KeyIsLocked info) = WasAnsweredAt h start (answer.KeyIsLocked info)
+IsScanAnswer h start (answer.BelowSafePoint safe) = (start < safe)
+    × WasAnsweredAt h start (answer.BelowSafePoint safe)
+IsScanAnswer h start _ = ⊥
+
+-- where an answer to a read at the start tells of a lock in the way, a read there was answered so;
+-- the lock is on the key that was read, where that is one
+abbrev pub TellsLock : History → ℕ → Option Key → Answer → Type 0
+TellsLock h start named (answer.KeyIsLocked info) = IfSome named (λ key. info.key ≡ key)
+    × WasAnsweredAt h start (answer.KeyIsLocked info)
+TellsLock h start named _ = Unit {0}
 
 -- the seat of a session has seen its start drawn: it lies at or below the last number drawn
 abbrev pub HasSeenStart : Seated → Type 0

@@ -1,13 +1,15 @@
 -- What stops a transaction, and whether one that begins later may go further.
-use Rattle.std.specs.Prelude.{◌≡◌, ◌⊎◌, Bool, true, false}
+use Rattle.std.specs.Prelude.{◌≡◌, ◌<◌, ◌⊎◌, ℕ, Bool, true, false}
 use Rattle.tx_types.specs.declared.key.Key.{Key}
-use Rattle.tx_types.specs.declared.fault.Fault.{Fault}
 use Rattle.tx_types.specs.declared.fault.Fault.TheVariants as fault
+use Rattle.tx_types.specs.declared.lock.LockInfo.{LockInfo}
 use Rattle.tx_plan.specs.declared.answer.Answer.{Answer}
 use Rattle.tx_plan.specs.declared.answer.Answer.TheVariants as answer
+use Rattle.tx_core.specs.Histories.{History}
 use Rattle.tx_transaction.specs.declared.state.Miss.{Miss}
 use Rattle.tx_transaction.specs.declared.state.Miss.TheVariants as miss
 use Rattle.tx_client.specs.declared.resolved.WaitCause.TheVariants as wait
+use Rattle.tx_update.specs.Reads.{WasAnsweredAt}
 use Rattle.tx_update.specs.declared.stops.Stop.{Stop}
 use Rattle.tx_update.specs.declared.stops.Stop.TheVariants as stop
 
@@ -39,16 +41,20 @@ abbrev pub IsOwnRefusal : Stop → Type 0
 IsOwnRefusal (stop.Refused f) = Unit {0}
 IsOwnRefusal _ = ⊥
 
--- why a read stops: a lock in the way whose transaction lives or could not be asked, the safe
--- point, a lost reply, or memory that was refused
-abbrev pub IsReadStop : Stop → Type 0
-IsReadStop (stop.Waits key why) = Unit {0}
-IsReadStop stop.BelowSafePoint = Unit {0}
-IsReadStop stop.Lost = Unit {0}
-IsReadStop (stop.Refused f) = f ≡ fault.OutOfMemory
-IsReadStop (stop.Conflict key) = ⊥
-IsReadStop stop.RolledBack = ⊥
-IsReadStop (stop.AlreadyExists key) = ⊥
+-- Why a read of a transaction stops that began at this start, by what its seat has seen then, and
+-- by where a read may be lost on its way: a read at the start was answered that a lock is in the
+-- way, whose key is told, or that the safe point lies above the start; or a read at the start may
+-- be lost; or memory was refused.
+abbrev pub IsReadStop : (ℕ → Type 0) → History → ℕ → Stop → Type 0
+IsReadStop loses h start (stop.Waits key why) = (info : LockInfo) × (info.key ≡ key)
+    × WasAnsweredAt h start (answer.KeyIsLocked info)
+IsReadStop loses h start stop.BelowSafePoint = (safe : ℕ) × (start < safe)
+    × WasAnsweredAt h start (answer.BelowSafePoint safe)
+IsReadStop loses h start stop.Lost = loses start
+IsReadStop loses h start (stop.Refused f) = f ≡ fault.OutOfMemory
+IsReadStop loses h start (stop.Conflict key) = ⊥
+IsReadStop loses h start stop.RolledBack = ⊥
+IsReadStop loses h start (stop.AlreadyExists key) = ⊥
 
 -- where a lock stands in the way of a read of a key, that key is told
 abbrev pub NamesKey : Key → Stop → Type 0

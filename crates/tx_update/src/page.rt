@@ -4,7 +4,7 @@ ghost use Rattle.tx_types.specs.Keys.{key_lt};
 ghost use Rattle.tx_core.specs.Histories.{Begins};
 ghost use Rattle.tx_laws.specs.Rows.{AreRowsOf};
 ghost use Rattle.tx_update.specs.Ranges.{IsRestOf, end_of_page, is_in_range};
-ghost use Rattle.tx_update.specs.Reads.{Beneath, FindsRange};
+ghost use Rattle.tx_update.specs.Reads.{Beneath, FindsRange, LosesRead};
 ghost use Rattle.tx_update.specs.Stops.{IsReadStop};
 
 use crate::rows::{KeyRange, Page, greatest};
@@ -30,7 +30,7 @@ impl<'a, J: JournalId, S: Sender<Request<J>, Reply<J>>, B: Begun> Lent<'a, J, S,
         ensures finds { IfOk result (λ page. FindsRange self.now.running.state.buffer self.now.running.seat.events
             B.session.state.start (Some range.from) (end_of_page range page.rest) page.rows.items) }
         ensures rest { IfOk result (λ page. IsRestOf range page.rest) }
-        ensures err { IfErr result IsReadStop }
+        ensures err { IfErr result (IsReadStop (LosesRead S.sends) self.now.running.seat.events B.session.state.start) }
     {
         let KeyRange { from, to } = range;
         let part = KeyRange {
@@ -49,7 +49,7 @@ impl<'a, J: JournalId, S: Sender<Request<J>, Reply<J>>, B: Begun> Lent<'a, J, S,
         ensures finds { IfOk result (λ page. FindsRange self.old.running.state.buffer self.new.running.seat.events
             B.session.state.start (Some range.from) (end_of_page range page.rest) page.rows.items) }
         ensures rest { IfOk result (λ page. IsRestOf range page.rest) }
-        ensures err { IfErr result IsReadStop }
+        ensures err { IfErr result (IsReadStop (LosesRead S.sends) self.new.running.seat.events B.session.state.start) }
     {
         let rows = self.rows_in(&range)?;
         let rows = self.with_entered(rows, &range)?;
@@ -63,7 +63,7 @@ impl<'a, J: JournalId, S: Sender<Request<J>, Reply<J>>, B: Begun> Lent<'a, J, S,
         ensures finds { IfOk result (λ page. FindsRange self.old.running.state.buffer self.new.running.seat.events
             B.session.state.start (Some range.from) (end_of_page range page.rest) page.rows.items) }
         ensures rest { IfOk result (λ page. IsRestOf range page.rest) }
-        ensures err { IfErr result IsReadStop }
+        ensures err { IfErr result (IsReadStop (LosesRead S.sends) self.new.running.seat.events B.session.state.start) }
     {
         let end = match &range.to {
             Some(to) => to.clone()?,

@@ -4,7 +4,7 @@ ghost use Rattle.tx_types.specs.Keys.{is_between, key_lt};
 ghost use Rattle.tx_core.specs.Histories.{Begins};
 ghost use Rattle.tx_laws.specs.Rows.{AreRowsOf};
 ghost use Rattle.tx_update.specs.Ranges.{IsSplit, is_in_range, row_of};
-ghost use Rattle.tx_update.specs.Reads.{Beneath, FindsRange, SeesOn};
+ghost use Rattle.tx_update.specs.Reads.{Beneath, FindsRange, LosesRead, SeesOn};
 ghost use Rattle.tx_update.specs.Stops.{IsReadStop};
 
 use crate::rows::{KeyRange, enter_over, greatest};
@@ -61,7 +61,7 @@ impl<'a, J: JournalId, S: Sender<Request<J>, Reply<J>>, B: Begun> Lent<'a, J, S,
         ensures more { Begins self.old.running.seat.events self.new.running.seat.events }
         ensures finds { IfOk result (λ rows. AreRowsOf (is_between from.now to.now)
             (SeesOn J.bounds self.new.running.seat.events B.session.state.start) rows.items) }
-        ensures err { IfErr result IsReadStop }
+        ensures err { IfErr result (IsReadStop (LosesRead S.sends) self.new.running.seat.events B.session.state.start) }
     {
         let mut rows = Vec::new(self.running.alloc());
         let mut next = from.clone()?;
@@ -84,7 +84,7 @@ impl<'a, J: JournalId, S: Sender<Request<J>, Reply<J>>, B: Begun> Lent<'a, J, S,
         ensures more { Begins self.old.running.seat.events self.new.running.seat.events }
         ensures finds { IfOk result (λ rows. AreRowsOf (is_in_range (Some from.now) (Some to.now))
             (Beneath self.old.running.state.buffer self.new.running.seat.events B.session.state.start) rows.items) }
-        ensures err { IfErr result IsReadStop }
+        ensures err { IfErr result (IsReadStop (LosesRead S.sends) self.new.running.seat.events B.session.state.start) }
     {
         let rows = self.pages(from, to)?;
         self.running.know_run();
@@ -97,7 +97,7 @@ impl<'a, J: JournalId, S: Sender<Request<J>, Reply<J>>, B: Begun> Lent<'a, J, S,
         ensures more { Begins self.old.running.seat.events self.new.running.seat.events }
         ensures finds { IfOk result (λ rows. AreRowsOf (is_in_range (Some from.now) None)
             (Beneath self.old.running.state.buffer self.new.running.seat.events B.session.state.start) rows.items) }
-        ensures err { IfErr result IsReadStop }
+        ensures err { IfErr result (IsReadStop (LosesRead S.sends) self.new.running.seat.events B.session.state.start) }
     {
         let top = greatest(self.running.alloc())?;
         let mut rows = self.pages(from, &top)?;
@@ -125,7 +125,7 @@ impl<'a, J: JournalId, S: Sender<Request<J>, Reply<J>>, B: Begun> Lent<'a, J, S,
         ensures more { Begins self.old.running.seat.events self.new.running.seat.events }
         ensures finds { IfOk result (λ r. AreRowsOf (is_in_range (Some from.now) (Some r.1))
             (Beneath self.old.running.state.buffer self.new.running.seat.events B.session.state.start) r.0.items) }
-        ensures err { IfErr result IsReadStop }
+        ensures err { IfErr result (IsReadStop (LosesRead S.sends) self.new.running.seat.events B.session.state.start) }
     {
         let page = self.look_for(from, to, limit)?;
         let end = to.clone()?;
@@ -143,7 +143,7 @@ impl<'a, J: JournalId, S: Sender<Request<J>, Reply<J>>, B: Begun> Lent<'a, J, S,
             (Beneath self.now.running.state.buffer self.now.running.seat.events B.session.state.start) rows.items }
         ensures finds { IfOk result (λ all. FindsRange self.now.running.state.buffer self.now.running.seat.events
             B.session.state.start (Some range.now.from) range.now.to all.items) }
-        ensures err { IfErr result IsReadStop }
+        ensures err { IfErr result (IsReadStop (LosesRead S.sends) self.now.running.seat.events B.session.state.start) }
     {
         let changes = self.running.entered()?;
         enter_over(&mut rows, changes.as_slice(), range)?;
@@ -156,7 +156,7 @@ impl<'a, J: JournalId, S: Sender<Request<J>, Reply<J>>, B: Begun> Lent<'a, J, S,
         ensures more { Begins self.old.running.seat.events self.new.running.seat.events }
         ensures finds { IfOk result (λ rows. AreRowsOf (is_in_range (Some range.now.from) range.now.to)
             (Beneath self.old.running.state.buffer self.new.running.seat.events B.session.state.start) rows.items) }
-        ensures err { IfErr result IsReadStop }
+        ensures err { IfErr result (IsReadStop (LosesRead S.sends) self.new.running.seat.events B.session.state.start) }
     {
         match &range.to {
             Some(to) => self.rows_upto(&range.from, to),

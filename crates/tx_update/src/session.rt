@@ -10,7 +10,7 @@ ghost use Rattle.tx_core.specs.Worlds.{IsWorldRun};
 ghost use Rattle.tx_transaction.specs.Buffers.{changes_of};
 ghost use Rattle.tx_journal.specs.Senders.{IsSender};
 ghost use Rattle.tx_update.specs.declared.stops.Stop.TheVariants as stop;
-ghost use Rattle.tx_update.specs.Reads.{AnswersRead, AnswersScan, TellsPage, IsGetAnswer, IsScanAnswer, HasSeenStart};
+ghost use Rattle.tx_update.specs.Reads.{AnswersRead, AnswersScan, TellsPage, IsGetAnswer, IsScanAnswer, IsReadMiss, LosesRead, HasSeenStart};
 ghost use Rattle.tx_update.specs.Updates.{HasOutcome, Follows, SeatGoesOn};
 
 use crate::met_lock::clear_met;
@@ -149,7 +149,10 @@ impl<'a, J: JournalId, S: Sender<Request<J>, Reply<J>>, B: Begun> Running<'a, J,
         ensures more { Begins self.old.seat.events self.new.seat.events }
         ensures reads { IfOk result (AnswersRead (buffered self.old.state.buffer key.now) self.new.seat.events
             B.session.state.start key.now) }
-        ensures may { HasSeenStart B.session → IfOk result IsGetAnswer }
+        ensures may { HasSeenStart B.session
+            → IfOk result (IsGetAnswer self.new.seat.events B.session.state.start key.now) }
+        ensures misses { HasSeenStart B.session
+            → IfErr result (IsReadMiss (LosesRead S.sends) B.session.state.start) }
     {
         self.session.get(key, self.sender)
     }
@@ -162,7 +165,10 @@ impl<'a, J: JournalId, S: Sender<Request<J>, Reply<J>>, B: Begun> Running<'a, J,
             (AnswersScan self.new.seat.events B.session.state.start from.now to.now limit) }
         ensures tells { IfOk result
             (TellsPage J.bounds self.new.seat.events B.session.state.start from.now to.now limit) }
-        ensures may { HasSeenStart B.session → IfOk result IsScanAnswer }
+        ensures may { HasSeenStart B.session
+            → IfOk result (IsScanAnswer self.new.seat.events B.session.state.start) }
+        ensures misses { HasSeenStart B.session
+            → IfErr result (IsReadMiss (LosesRead S.sends) B.session.state.start) }
     {
         // For proofs: the keys between the regions rise.
         let _bounds = self.sender.bounds();

@@ -8,7 +8,7 @@ ghost use Rattle.tx_core.specs.Histories.{History, Begins};
 ghost use Rattle.tx_transaction.specs.Buffers.{buffered};
 ghost use Rattle.tx_transaction.specs.Sessions.{is_declared};
 ghost use Rattle.tx_laws.specs.Rows.{AreRowsOf};
-ghost use Rattle.tx_update.specs.Reads.{Finds, FindsRows, AnswersRead, AnswersScan, SeesOn, TellsPage, IsGetAnswer, IsScanAnswer, HasSeenStart};
+ghost use Rattle.tx_update.specs.Reads.{Finds, FindsRows, AnswersRead, AnswersScan, SeesOn, TellsPage, TellsLock, IsGetAnswer, IsScanAnswer, IsReadMiss, LosesRead, HasSeenStart};
 ghost use Rattle.tx_update.specs.Stops.{IsReadStop, NamesKey};
 
 use crate::rows::{KeyRange, Page};
@@ -51,6 +51,10 @@ pub trait Tx {
     /// What its seat has seen of the history.
     ghost seen: { Self → History };
 
+    /// Whether a read at a timestamp may be lost on its way, or its reply. Of a transaction of an
+    /// update it is what the update's sender may lose (`LosesRead`).
+    ghost loses: { ℕ → Type 0 };
+
     /// Where it takes memory.
     fn alloc(&self) -> Global;
 
@@ -61,13 +65,15 @@ pub trait Tx {
     /// The value of a key at the start, or what was entered of it: what the one-step machine sees.
     /// It stops by `Waits` of the key where a lock stands in the way whose transaction lives or
     /// cannot be asked, `BelowSafePoint` where the start lies below the safe point, `Lost` where no
-    /// reply came, `Refused` for want of memory, and by nothing else: never by a conflict.
+    /// reply came, `Refused` for want of memory, and by nothing else: never by a conflict. By the
+    /// first two it stops only as a read at the start was answered, in what its seat has seen then;
+    /// by `Lost` only where such a read may be lost on its way.
     fn get(&mut self, key: &Key) -> Result<Option<Value>, Stop>
         ensures same { (buffer self.new ≡ buffer self.old) × (begins self.new ≡ begins self.old) }
         ensures more { Begins (seen self.old) (seen self.new) }
         ensures finds { IfOk result
             (λ found. Finds (buffered (buffer self.old) key.now) (seen self.new) (begins self.old) key.now found) }
-        ensures err { IfErr result IsReadStop }
+        ensures err { IfErr result (IsReadStop loses (seen self.new) (begins self.old)) }
         ensures names { IfErr result (NamesKey key.now) };
 
     /// The first `limit` keys with a value at the start, from `from` up to but not including `to`;
@@ -77,7 +83,7 @@ pub trait Tx {
         ensures more { Begins (seen self.old) (seen self.new) }
         ensures finds { IfOk result
             (λ rows. FindsRows (seen self.new) (begins self.old) from.now to.now limit rows.items) }
-        ensures err { IfErr result IsReadStop };
+        ensures err { IfErr result (IsReadStop loses (seen self.new) (begins self.old)) };
 
     /// The rows of a range, of any number, from a key, or from the least, and up to but not
     /// including another, or to the greatest: each as `get` finds it, so that what was entered
@@ -88,7 +94,7 @@ pub trait Tx {
         ensures more { Begins (seen self.old) (seen self.new) }
         ensures finds { IfOk result
             (λ rows. FindsRange (buffer self.old) (seen self.new) (begins self.old) from to rows.items) }
-        ensures err { IfErr result IsReadStop };
+        ensures err { IfErr result (IsReadStop loses (seen self.new) (begins self.old)) };
 
     /// The first rows of a range, and what is left of it: about `limit` of them, since it asks for
     /// no more, and what was entered lies over what it is told, as in `range`. Page by page, each
@@ -104,7 +110,7 @@ pub trait Tx {
         ensures finds { IfOk result (λ page. FindsRange (buffer self.old) (seen self.new) (begins self.old)
             (Some range.from) (end_of_page range page.rest) page.rows.items) }
         ensures rest { IfOk result (λ page. IsRestOf range page.rest) }
-        ensures err { IfErr result IsReadStop };
+        ensures err { IfErr result (IsReadStop loses (seen self.new) (begins self.old)) };
 
     /// Enters a put. `Refused` for more than 1,024 keys, or for want of memory: nothing is entered
     /// then.
@@ -157,7 +163,8 @@ pub(crate) struct Lent<'a, J: JournalId, S: Sender<Request<J>, Reply<J>>, B: Beg
 fn value_in(key: &Key, answer: Answer) -> Result<Option<Value>, Stop>
     ensures finds { IfOk result (λ found. (entered : Option Mutation) (h : History) (start : ℕ) (k : Key)
         → AnswersRead entered h start k answer → Finds entered h start k found) }
-    ensures err { IfErr result (λ s. IsGetAnswer answer → IsReadStop s) }
+    ensures err { IfErr result (λ s. (h : History) (start : ℕ) → IsGetAnswer h start key.now answer
+        → IsReadStop (λ _. ⊥) h start s) }
     ensures names { IfErr result (NamesKey key.now) }
 {
     match answer {
@@ -171,7 +178,8 @@ fn value_in(key: &Key, answer: Answer) -> Result<Option<Value>, Stop>
 // The rows that a scan found.
 fn rows_in(answer: Answer) -> Result<KeyValues, Stop>
     ensures rows { IfOk result (λ rows. answer ≡ Rows rows) }
-    ensures err { IfErr result (λ s. IsScanAnswer answer → IsReadStop s) }
+    ensures err { IfErr result (λ s. (h : History) (start : ℕ) → IsScanAnswer h start answer
+        → IsReadStop (λ _. ⊥) h start s) }
 {
     match answer {
         Answer::Rows(rows) => Ok(rows),
@@ -208,7 +216,10 @@ impl<'a, J: JournalId, S: Sender<Request<J>, Reply<J>>, B: Begun> Lent<'a, J, S,
         ensures more { Begins self.old.running.seat.events self.new.running.seat.events }
         ensures answers { IfOk result
             (λ found. IfSome found (λ a. (response ≡ Ok a) × (self.new.running ≡ self.old.running))) }
-        ensures err { IfErr result IsReadStop }
+        ensures err { IfOk response (TellsLock self.old.running.seat.events B.session.state.start
+            (option_map (λ k. k.now) named.entry))
+            → IfErr response (IsReadMiss (LosesRead S.sends) B.session.state.start)
+            → IfErr result (IsReadStop (LosesRead S.sends) self.new.running.seat.events B.session.state.start) }
         ensures names { IfErr result (λ s. IfSome (option_map (λ k. k.now) named.entry) (λ k. NamesKey k s)) }
     {
         match response? {
@@ -229,8 +240,9 @@ impl<'a, J: JournalId, S: Sender<Request<J>, Reply<J>>, B: Begun> Lent<'a, J, S,
         ensures more { Begins self.old.running.seat.events self.new.running.seat.events }
         ensures reads { IfOk result (λ found. IfSome found (AnswersRead (buffered self.old.running.state.buffer key.now)
             self.new.running.seat.events B.session.state.start key.now)) }
-        ensures may { IfOk result (λ found. IfSome found IsGetAnswer) }
-        ensures err { IfErr result IsReadStop }
+        ensures may { IfOk result (λ found. IfSome found
+            (IsGetAnswer self.new.running.seat.events B.session.state.start key.now)) }
+        ensures err { IfErr result (IsReadStop (LosesRead S.sends) self.new.running.seat.events B.session.state.start) }
         ensures names { IfErr result (NamesKey key.now) }
     {
         let response = self.running.get(key);
@@ -245,8 +257,9 @@ impl<'a, J: JournalId, S: Sender<Request<J>, Reply<J>>, B: Begun> Lent<'a, J, S,
             (AnswersScan self.new.running.seat.events B.session.state.start from.now to.now limit)) }
         ensures tells { IfOk result (λ found. IfSome found
             (TellsPage J.bounds self.new.running.seat.events B.session.state.start from.now to.now limit)) }
-        ensures may { IfOk result (λ found. IfSome found IsScanAnswer) }
-        ensures err { IfErr result IsReadStop }
+        ensures may { IfOk result (λ found. IfSome found
+            (IsScanAnswer self.new.running.seat.events B.session.state.start)) }
+        ensures err { IfErr result (IsReadStop (LosesRead S.sends) self.new.running.seat.events B.session.state.start) }
     {
         let response = self.running.scan(from, to, limit);
         self.passed(response, None)
@@ -258,7 +271,7 @@ impl<'a, J: JournalId, S: Sender<Request<J>, Reply<J>>, B: Begun> Lent<'a, J, S,
         ensures more { Begins self.old.running.seat.events self.new.running.seat.events }
         ensures finds { IfOk result (λ found. Finds (buffered self.old.running.state.buffer key.now)
             self.new.running.seat.events B.session.state.start key.now found) }
-        ensures err { IfErr result IsReadStop }
+        ensures err { IfErr result (IsReadStop (LosesRead S.sends) self.new.running.seat.events B.session.state.start) }
         ensures names { IfErr result (NamesKey key.now) }
     {
         for _ in 0..MAX_SCAN_ROWS {
@@ -266,7 +279,8 @@ impl<'a, J: JournalId, S: Sender<Request<J>, Reply<J>>, B: Begun> Lent<'a, J, S,
                 return value_in(key, answer);
             }
         }
-        Err(Stop::Waits(key.clone()?, WaitCause::Live))
+        let answer = self.running.get(key)?;
+        value_in(key, answer)
     }
 
     /// The first rows of a range at the start. Locks in its way are resolved.
@@ -277,14 +291,15 @@ impl<'a, J: JournalId, S: Sender<Request<J>, Reply<J>>, B: Begun> Lent<'a, J, S,
             (λ rows. FindsRows self.new.running.seat.events B.session.state.start from.now to.now limit rows) }
         ensures tells { IfOk result (λ rows. AreRowsOf (is_scanned from.now to.now limit rows)
             (SeesOn J.bounds self.new.running.seat.events B.session.state.start) rows) }
-        ensures err { IfErr result IsReadStop }
+        ensures err { IfErr result (IsReadStop (LosesRead S.sends) self.new.running.seat.events B.session.state.start) }
     {
         for _ in 0..MAX_SCAN_ROWS {
             if let Some(answer) = self.look_over(from, to, limit)? {
                 return rows_in(answer);
             }
         }
-        Err(Stop::Waits(from.clone()?, WaitCause::Live))
+        let answer = self.running.scan(from, to, limit)?;
+        rows_in(answer)
     }
 }
 
@@ -294,6 +309,8 @@ impl<'a, J: JournalId, S: Sender<Request<J>, Reply<J>>, B: Begun> Tx for Lent<'a
     ghost begins = { λ t. B.session.state.start };
 
     ghost seen = { λ t. t.running.seat.events };
+
+    ghost loses = { LosesRead S.sends };
 
     fn alloc(&self) -> Global {
         self.running.alloc()

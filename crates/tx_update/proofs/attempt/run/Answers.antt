@@ -1,4 +1,4 @@
-use Rattle.std.proofs.Common.{◌≡◌, inr, ℕ, None, Err, refl, sym, subst}
+use Rattle.std.proofs.Common.{◌≡◌, inr, ℕ, None, Err, refl, subst}
 use Rattle.tx_update.specs.Updates.{HasOutcome}
 use Rattle.tx_core.specs.Histories.{declared}
 use Rattle.tx_update.proofs.CallSequences.{goes_more}

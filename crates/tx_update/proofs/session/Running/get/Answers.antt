@@ -36,7 +36,13 @@ returns-clause-more g c =
     (goes_begins old.seat c.get.new.self.seat both.0.seat)
 
 pub returns-clause-may : goal.returns-clause-may
-returns-clause-may g c =
-    get_answered g.J.JournalId.bounds g.S.Sender.fits g.S.Sender.sends g.S.Sender.keys_between c.self.invariant.0
+returns-clause-may g c = λ drawn.
+    (get_answered g.J.JournalId.bounds g.S.Sender.fits g.S.Sender.sends g.S.Sender.keys_between c.self.invariant.0
     g.B.Begun.session c.self.inside.session c.get.new.self c.self.invariant.1.seat c.self.invariant.1.start _ _
-    c.args.key.now c.get.result c.get.ensures
+    c.args.key.now c.get.result c.get.ensures drawn).0
+
+pub returns-clause-misses : goal.returns-clause-misses
+returns-clause-misses g c = λ drawn.
+    (get_answered g.J.JournalId.bounds g.S.Sender.fits g.S.Sender.sends g.S.Sender.keys_between c.self.invariant.0
+    g.B.Begun.session c.self.inside.session c.get.new.self c.self.invariant.1.seat c.self.invariant.1.start _ _
+    c.args.key.now c.get.result c.get.ensures drawn).1

@@ -49,7 +49,13 @@ returns-clause-tells g c =
     c.scan-result.result c.scan-result.ensures
 
 pub returns-clause-may : goal.returns-clause-may
-returns-clause-may g c =
-    scan_answered g.J.JournalId.bounds g.S.Sender.fits g.S.Sender.sends g.S.Sender.keys_between c.self.invariant.0
+returns-clause-may g c = λ drawn.
+    (scan_answered g.J.JournalId.bounds g.S.Sender.fits g.S.Sender.sends g.S.Sender.keys_between c.self.invariant.0
     g.B.Begun.session c.self.inside.session c.scan-result.new.self c.self.invariant.1.seat c.self.invariant.1.start _ _
-    c.args.from.now c.args.to.now c.args.limit c.scan-result.result c.scan-result.ensures
+    c.args.from.now c.args.to.now c.args.limit c.scan-result.result c.scan-result.ensures drawn).0
+
+pub returns-clause-misses : goal.returns-clause-misses
+returns-clause-misses g c = λ drawn.
+    (scan_answered g.J.JournalId.bounds g.S.Sender.fits g.S.Sender.sends g.S.Sender.keys_between c.self.invariant.0
+    g.B.Begun.session c.self.inside.session c.scan-result.new.self c.self.invariant.1.seat c.self.invariant.1.start _ _
+    c.args.from.now c.args.to.now c.args.limit c.scan-result.result c.scan-result.ensures drawn).1

@@ -1,5 +1,7 @@
-use Rattle.std.proofs.Common.{refl, ◌∙◌}
+use Rattle.std.proofs.Common.{rules, refl, ◌∙◌}
 use Rattle.tx_core.proofs.seats.Beginnings.{begins_all, begins_more}
+use Rattle.tx_update.specs.Reads.{IsGetAnswer, LosesRead}
+use Rattle.tx_update.proofs.ReadStops.{if_told_stops}
 use Rattle.tx_update.proofs.tx.Lent.find.Goals as goal
 
 pub loop-init : goal.loop-init
@@ -21,3 +23,28 @@ loop-preserved g c = (
   begins_more c.args.self.now.running.seat.events c.loop.self.running.seat.events
       c.look.new.self.running.seat.events c.loop.invariant.1 c.look.ensures.more,
 )
+
+pub returns-in-Some-clause-err : goal.returns-in-Some-clause-err
+returns-in-Some-clause-err g c =
+    let start = g.B.Begun.session.state.start in
+    let events = c.look.new.self.running.seat.events in
+    let may : IsGetAnswer events start c.args.key.now c.in-Some.answer = search rules in
+    if_told_stops (LosesRead g.S.Sender.sends) events start
+    (λ h n. IsGetAnswer h n c.args.key.now c.in-Some.answer) c.value_in.result c.value_in.ensures.err may
+
+-- the last read
+pub returns-in_err-answer-2-clause-more : goal.returns-in_err-answer-2-clause-more
+returns-in_err-answer-2-clause-more g c =
+    begins_more c.args.self.now.running.seat.events c.loop.self.running.seat.events c.get.new.self.seat.events
+    c.loop.invariant.1 c.get.ensures.more
+
+pub returns-clause-more : goal.returns-clause-more
+returns-clause-more g c =
+    begins_more c.args.self.now.running.seat.events c.loop.self.running.seat.events c.get.new.self.seat.events
+    c.loop.invariant.1 c.get.ensures.more
+
+pub returns-clause-err : goal.returns-clause-err
+returns-clause-err g c =
+    if_told_stops (LosesRead g.S.Sender.sends) c.get.new.self.seat.events g.B.Begun.session.state.start
+    (λ h n. IsGetAnswer h n c.args.key.now c.in_ok-answer-2.answer) c.value_in-2.result c.value_in-2.ensures.err
+    (c.in_ok-answer-2.ensures.may c.loop.self.drawn)

@@ -1,6 +1,5 @@
-use Rattle.std.proofs.Common.{IsTrue, List, sym, subst}
+use Rattle.std.proofs.Common.{subst}
 use Rattle.tx_types.specs.declared.key.Key.{Key}
-use Rattle.tx_types.specs.Keys.{key_le}
 use Rattle.tx_plan.proofs.KeyOrder.{lt_le}
 use Rattle.tx_update.specs.Ranges.{IsSplit}
 use Rattle.tx_update.specs.Reads.{SeesOn}

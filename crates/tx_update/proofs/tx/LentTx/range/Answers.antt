@@ -1,6 +1,5 @@
-use Rattle.std.proofs.Common.{◌≡◌, IfOk, List, Option, Some, sym, subst}
+use Rattle.std.proofs.Common.{IfOk, Option, Some, sym, subst}
 use Rattle.tx_types.specs.declared.key.Key.{Key}
-use Rattle.tx_types.specs.declared.mutation.KeyValue.{KeyValue}
 use Rattle.tx_core.proofs.seats.Beginnings.{begins_all}
 use Rattle.tx_transaction.specs.Buffers.{Entries}
 use Rattle.tx_laws.specs.Rows.{AreRowsOf}
