@@ -1,0 +1,4 @@
+-- What a session makes of a step, over whatever way.
+pub mod Ways
+-- What a step is in the words of `simulate`.
+pub mod Turns
