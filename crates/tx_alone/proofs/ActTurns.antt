@@ -1,10 +1,9 @@
 -- What a session does by itself is its turn, where nobody else acted.
-use Rattle.std.proofs.Common.{◌≡◌, ◌<◌, ◌+◌, ℕ, zero, suc, Bool, true, false, cond, inl, inr, List, [], ◌∷◌, ◌++◌, slice_get, slice_set, Option, Some, None, Result, Ok, Err, refl, sym, ap, subst, ◌∙◌, arith}
-use Rattle.tx_types.specs.declared.fault.Cause.{Cause}
+use Rattle.std.proofs.Common.{◌≡◌, ◌<◌, ◌+◌, ℕ, zero, suc, Bool, true, false, cond, inl, inr, List, [], ◌∷◌, ◌++◌, slice_get, slice_set, Option, Some, Ok, Err, refl, sym, ap, subst, ◌∙◌, arith}
 use Rattle.tx_types.specs.declared.fault.Cause.TheVariants as cause
 use Rattle.tx_types.specs.declared.key.Key.{Key}
-use Rattle.tx_core.specs.declared.event.Event.TheVariants.{Declared, Drawn}
-use Rattle.tx_core.specs.Histories.{History, last}
+use Rattle.tx_core.specs.declared.event.Event.TheVariants.{Drawn}
+use Rattle.tx_core.specs.Histories.{last}
 use Rattle.tx_transaction.specs.declared.state.Terms.{Terms}
 use Rattle.tx_transaction.specs.Buffers.{Entries, not_empty}
 use Rattle.tx_transaction.specs.Sessions.{SessionState, can_draw, declaration, declaration_of, exceeds, is_declared}
@@ -20,7 +19,7 @@ use Rattle.tx_ops.specs.Acts.{Declares, Does, DrawsIf}
 use Rattle.tx_ops.specs.Calls.{Said}
 use Rattle.tx_ops.specs.Edits.{Edit, Edited, deletes, inserts, locks, puts}
 use Rattle.tx_network.specs.Networks.{with_events}
-use Rattle.tx_engine.specs.Semantics.{EngineState, Transition, at_history, at_slot, declared_in, declares, draws, drew, edited, edits, goes, in_session, live_at, lives, placed, placed_in, seat_at, session, stops, turn, with_session}
+use Rattle.tx_engine.specs.Semantics.{EngineState, Transition, at_slot, declared_in, declares, draws, drew, edited, edits, goes, in_session, live_at, lives, placed, placed_in, seat_at, session, stops, turn, with_session}
 use Rattle.tx_core.proofs.Basics.{some_same}
 use Rattle.tx_alone.specs.Ways.{IsAlone}
 use Rattle.tx_alone.specs.Turns.{Table, IsLive, IsStepOf, IsTurn, TurnsBy, with_live}

@@ -1,5 +1,5 @@
 -- What the walk of a call may ask: keys of a region, and ranges that are not empty.
-use Rattle.std.proofs.Common.{◌≡◌, ◌⊎◌, ℕ, ◌-◌, ◌&&◌, ◌++◌, nat_lt, true, false, Bool, cond, inl, inr, List, [], ◌∷◌, length, Option, Some, None, Result, Ok, Err, refl, sym, ap, subst, ◌∙◌}
+use Rattle.std.proofs.Common.{◌≡◌, ℕ, ◌-◌, ◌&&◌, ◌++◌, nat_lt, true, false, Bool, inl, inr, List, [], ◌∷◌, length, Option, Some, None, Result, Ok, Err, refl, sym}
 use Rattle.std.specs.Prelude.{IfSome}
 use Rattle.tx_types.specs.Keys.{key_lt}
 use Rattle.tx_types.specs.Lengths.{is_key}
@@ -21,10 +21,8 @@ use Rattle.tx_plan.specs.declared.body.Body.{Body}
 use Rattle.tx_plan.specs.declared.body.Body.TheVariants as request
 use Rattle.tx_plan.specs.declared.body.Prewrite.{Prewrite as PrewriteBody}
 use Rattle.tx_core.specs.Histories.{History}
-use Rattle.tx_core.specs.Worlds.{Holds}
 use Rattle.tx_transaction.specs.declared.state.Due.{Due}
 use Rattle.tx_transaction.specs.declared.state.Miss.{Miss}
-use Rattle.tx_transaction.specs.declared.state.Miss.TheVariants as miss
 use Rattle.tx_transaction.specs.declared.state.Phase.{Phase}
 use Rattle.tx_transaction.specs.declared.state.Phase.TheVariants as phase
 use Rattle.tx_transaction.specs.declared.state.Terms.{Terms}
@@ -36,8 +34,7 @@ use Rattle.tx_steps.specs.declared.call.Call.TheVariants as call
 use Rattle.tx_steps.specs.declared.delivery.Delivery.{Delivery}
 use Rattle.tx_steps.specs.declared.step.Step.TheVariants as step
 use Rattle.tx_steps.specs.Steps.{Text}
-use Rattle.tx_ops.specs.Calls.{Said, allowed_call, call_walk, read_call}
-use Rattle.tx_network.specs.Networks.{region_for}
+use Rattle.tx_ops.specs.Calls.{allowed_call, call_walk, read_call}
 use Rattle.tx_alone.specs.Turns.{Table, AnyMinimum, IsTwoPhase, LeastMinimum}
 use Rattle.tx_alone.proofs.StoreWalks.{MayAsk, AllAsk}
 

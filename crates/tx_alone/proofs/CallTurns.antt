@@ -1,6 +1,5 @@
 -- What a call comes to over a store is its turn, where nobody else acted.
-use Rattle.std.proofs.Common.{◌≡◌, ◌+◌, ℕ, Bool, true, List, ◌++◌, slice_get, slice_set, Option, Some, Result, Ok, Err, refl, sym, ap, subst, ◌∙◌}
-use Rattle.tx_types.specs.declared.fault.Cause.{Cause}
+use Rattle.std.proofs.Common.{◌≡◌, ℕ, Bool, true, List, Option, Ok, Err, refl, sym, ap, subst}
 use Rattle.tx_types.specs.declared.key.Key.{Key}
 use Rattle.tx_core.specs.Histories.{History}
 use Rattle.tx_client.specs.Calls.{Seated}
@@ -13,9 +12,9 @@ use Rattle.tx_transaction.specs.Sessions.{SessionState}
 use Rattle.tx_reply.specs.declared.reply.ScriptReply.{ScriptReply}
 use Rattle.tx_ops.specs.Calls.{Said, call_walk}
 use Rattle.tx_ops.proofs.CallEnds.{call_stops}
-use Rattle.tx_engine.specs.Semantics.{EngineState, Transition, at_history, came, in_session, runs, sends_by, session, stops, turn}
+use Rattle.tx_engine.specs.Semantics.{EngineState, Transition, came, in_session, runs, sends_by, turn}
 use Rattle.tx_alone.specs.Ways.{CountsAnswers, IsAlone}
-use Rattle.tx_alone.specs.Turns.{Table, IsLive, IsTurn, LeadsBy, TurnsBy, with_live}
+use Rattle.tx_alone.specs.Turns.{Table, IsLive, IsTurn, TurnsBy, with_live}
 use Rattle.tx_alone.proofs.ActTurns.{is_live}
 use Rattle.tx_alone.proofs.CallBodies.{Suits, SuitsPrewrite, call_ask, has_one}
 use Rattle.tx_alone.proofs.StoreWalks.{Runs, walk_runs}

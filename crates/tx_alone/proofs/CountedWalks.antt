@@ -1,5 +1,5 @@
 -- Whatever is sent over a store, its answers can be counted; and what is counted was sent over one.
-use Rattle.std.proofs.Common.{◌≡◌, ◌+◌, ℕ, inl, inr, List, Ok, Err, refl}
+use Rattle.std.proofs.Common.{◌+◌, ℕ, inl, inr, List, Ok, Err, refl}
 use Rattle.tx_types.specs.declared.key.Key.{Key}
 use Rattle.tx_journal.specs.Known.{Known}
 use Rattle.tx_store.specs.Stores.{Replies}
@@ -18,8 +18,8 @@ use Rattle.tx_alone.specs.Turns.{IsStepOf}
 use Rattle.tx_alone.specs.Ways.{CountsAnswers, MakesBy}
 
 module _ (bounds : List Key) where
-  count : {R : Type 0} (w : Walk R) (k new : Known) (from : ℕ) (r : R) → Sends (Replies {S = Unit {0}}) bounds k tt w r tt new
-      → (to : ℕ) × Sends CountsAnswers bounds k from w r to new
+  count : {R : Type 0} (w : Walk R) (k new : Known) (from : ℕ) (r : R)
+      → Sends (Replies {S = Unit {0}}) bounds k tt w r tt new → (to : ℕ) × Sends CountsAnswers bounds k from w r to new
   count (ends x) k new from r (is, there, knows) = (from, (is, refl, knows))
   count (grows more short) k new from r (inl sent) =
       (let rest = count short k new from r sent in (rest.0, inl rest.1))

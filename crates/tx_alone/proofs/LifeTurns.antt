@@ -1,5 +1,5 @@
 -- What begins and ends a session is its turn, where nobody else acted.
-use Rattle.std.proofs.Common.{◌≡◌, ◌+◌, ℕ, Bool, true, false, not, cond, List, [], ◌∷◌, ◌++◌, slice_set, Option, Some, None, is_some, Result, Ok, Err, refl, sym, ap, subst, ◌∙◌}
+use Rattle.std.proofs.Common.{◌≡◌, ◌+◌, ℕ, Bool, true, false, not, cond, List, [], ◌∷◌, slice_set, Option, Some, None, is_some, Ok, Err, refl, sym, ap, subst, ◌∙◌}
 use Rattle.std.specs.Prelude.{bytes_eq}
 use Rattle.std.specs.Map.{update}
 use Rattle.tx_types.specs.Names.{is_name}
@@ -8,10 +8,10 @@ use Rattle.tx_types.specs.declared.key.Key.{Key}
 use Rattle.tx_core.specs.declared.event.Event.{Event}
 use Rattle.tx_core.specs.declared.event.Event.TheVariants.{Answered, Began, Drawn, Stopped}
 use Rattle.tx_core.specs.declared.event.Outcome.{Outcome}
-use Rattle.tx_core.specs.Histories.{History, last}
+use Rattle.tx_core.specs.Histories.{last}
 use Rattle.tx_journal.specs.Known.{Known}
 use Rattle.tx_transaction.specs.Sessions.{SessionState, begun, finish_of}
-use Rattle.tx_client.specs.Calls.{BeganAt, Records, Seated}
+use Rattle.tx_client.specs.Calls.{Records, Seated}
 use Rattle.tx_steps.specs.declared.op.Op.{Op}
 use Rattle.tx_steps.specs.declared.op.Op.TheVariants as op
 use Rattle.tx_steps.specs.declared.step.Step.{Step}

@@ -1,10 +1,10 @@
 -- What a seat then knows that recorded or drew, where nobody else acted.
-use Rattle.std.proofs.Common.{◌≡◌, ◌≢◌, ◌≤◌, ◌+◌, ℕ, List, ◌∷◌, length, Some, sym, ap, ◌∙◌, arith}
+use Rattle.std.proofs.Common.{◌≡◌, ◌≢◌, ◌≤◌, ◌+◌, ℕ, List, ◌∷◌, length, Some, ap, ◌∙◌, arith}
 use Rattle.tx_types.specs.declared.key.Key.{Key}
 use Rattle.tx_core.specs.declared.event.Declaration.{Declaration}
 use Rattle.tx_core.specs.declared.event.Event.{Event}
 use Rattle.tx_core.specs.declared.event.Event.TheVariants.{Began, Declared, Drawn}
-use Rattle.tx_core.specs.Histories.{History, last}
+use Rattle.tx_core.specs.Histories.{last}
 use Rattle.tx_core.specs.Recording.{owner, part}
 use Rattle.tx_core.proofs.seats.Beginnings.{begins_all}
 use Rattle.tx_core.proofs.seats.Parts.{part_own, part_other}
@@ -80,6 +80,6 @@ pub alone_by_answer : (old new : Known) (e : Event) → new.seat ≡ old.seat �
 alone_by_answer old new e number other is =
     let more : made_by new ≡ length (part old.seat (e ∷ old.events)) =
     (λ j. length (part (number j) (is j))) in
-    let none : length (part old.seat (e ∷ old.events)) ≡ made_by old = ap length (part_other old.seat old.events e other)
-    in
+    let none : length (part old.seat (e ∷ old.events)) ≡ made_by old =
+    ap length (part_other old.seat old.events e other) in
     omega (arith, ap length is, more, none)

@@ -1,21 +1,18 @@
 -- A step that is made over a store, where nobody else acted, is its turn.
-use Rattle.std.proofs.Common.{◌≡◌, ℕ, true, Bool, List, Result, Ok, Err, sym, subst}
+use Rattle.std.proofs.Common.{◌≡◌, ℕ, true, List, sym, subst}
 use Rattle.tx_types.specs.declared.key.Key.{Key}
-use Rattle.tx_types.specs.declared.fault.Cause.TheVariants as cause
 use Rattle.tx_plan.specs.declared.body.Body.{Body}
 use Rattle.tx_client.specs.Calls.{Seated}
-use Rattle.tx_steps.specs.declared.call.Call.{Call}
 use Rattle.tx_steps.specs.declared.delivery.Delivery.TheVariants as delivery
 use Rattle.tx_steps.specs.declared.op.Op.{Op}
 use Rattle.tx_steps.specs.declared.op.Op.TheVariants as op
 use Rattle.tx_steps.specs.declared.step.Step.{Step}
 use Rattle.tx_steps.specs.declared.step.Step.TheVariants as step
 use Rattle.tx_steps.specs.Steps.{Text}
-use Rattle.tx_ops.specs.Acts.{Does}
 use Rattle.tx_ops.specs.Calls.{Said}
 use Rattle.tx_engine.specs.Semantics.{EngineState}
-use Rattle.tx_alone.specs.Ways.{IsAlone, MakesBy, CountsAnswers}
-use Rattle.tx_alone.specs.Turns.{Table, AnyMinimum, LeastMinimum, IsLive, IsStepOf, IsTurn, IsTwoPhase, MakesAlone, with_live}
+use Rattle.tx_alone.specs.Ways.{IsAlone}
+use Rattle.tx_alone.specs.Turns.{Table, AnyMinimum, LeastMinimum, IsStepOf, IsTurn, IsTwoPhase, MakesAlone, with_live}
 use Rattle.tx_alone.proofs.ActTurns.{act_turn}
 use Rattle.tx_alone.proofs.CallBodies.{Suits, SuitsPrewrite, any_prewrites, any_suits, call_suits, has_one, least_suits}
 use Rattle.tx_alone.proofs.CallTurns.{call_turn}

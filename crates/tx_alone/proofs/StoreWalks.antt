@@ -1,5 +1,5 @@
 -- What the requests of a walk come to over a store, where nobody else acted.
-use Rattle.std.proofs.Common.{◌≡◌, ◌≤◌, ◌⊎◌, ◌+◌, ℕ, true, inl, inr, List, ◌∷◌, length, Option, Some, None, Ok, Err, refl, sym, ap, subst, ◌∙◌, arith}
+use Rattle.std.proofs.Common.{◌≡◌, ◌≤◌, ◌⊎◌, ◌+◌, ℕ, true, inl, inr, List, ◌∷◌, length, Option, Some, None, Ok, Err, sym, ap, subst, ◌∙◌, arith}
 use Rattle.std.specs.Prelude.{IfSome}
 use Rattle.tx_types.specs.declared.key.Key.{Key}
 use Rattle.tx_plan.specs.declared.answer.Answer.{Answer}
@@ -37,8 +37,8 @@ same_learnt bounds old new g learns = record {
 module _ (May : Table) (bounds : List Key) where
   -- ---- what a walk may ask
 
-  -- A request may need memory, just one region holds what it speaks of, and what a region may answer
-  -- to it by the case tables stands in this table.
+  -- A request may need memory, just one region holds what it speaks of, and what a region may
+  -- answer to it by the case tables stands in this table.
   pub record MayAsk (body : Body) : Type 0 where
     pub memory : takes_memory body ≡ true
     pub placed : (n : ℕ) → Holds bounds n body → n ≡ region_for bounds body

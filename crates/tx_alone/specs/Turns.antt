@@ -1,6 +1,6 @@
 -- What a step of a run is in the words of `simulate`: the turn of an engine in which just that has
 -- happened which the session's seat knows.
-use Rattle.std.specs.Prelude.{◌≡◌, ◌<◌, ◌++◌, ℕ, Bool, false, List, slice_get, slice_set, Option, Some, None, Result, Ok, Err, bytes_eq}
+use Rattle.std.specs.Prelude.{◌≡◌, ◌<◌, ◌++◌, ℕ, Bool, false, List, slice_get, slice_set, Some, None, Ok, Err, bytes_eq}
 use Rattle.std.specs.Map.{update}
 use Rattle.tx_types.specs.Names.{is_name}
 use Rattle.tx_types.specs.declared.fault.Cause.{Cause}

@@ -1,6 +1,6 @@
 -- What a session makes of a step, over whatever way its requests go. A store is one way, and the
 -- network of one thread is another: what `run` and `simulate` say of a step are two instances.
-use Rattle.std.specs.Prelude.{◌≡◌, ◌≤◌, ◌+◌, ℕ, List, length, Result, Ok, Err}
+use Rattle.std.specs.Prelude.{◌≡◌, ◌≤◌, ◌+◌, ℕ, List, length, Ok, Err}
 use Rattle.tx_types.specs.declared.fault.Cause.TheVariants.{Name, Order}
 use Rattle.tx_types.specs.declared.key.Key.{Key}
 use Rattle.tx_journal.specs.Known.{Known}

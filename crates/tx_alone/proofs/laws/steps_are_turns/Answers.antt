@@ -1,4 +1,3 @@
-use Rattle.tx_alone.specs.Turns.{IsTurn}
 use Rattle.tx_alone.proofs.StepTurns.{any_turn, least_turn}
 use Rattle.tx_alone.proofs.WalkTurns.{goes_least}
 use Rattle.tx_engine.specs.Semantics.{turn}
