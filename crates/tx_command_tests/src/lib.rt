@@ -16,4 +16,4 @@ mod sentences;
 #[cfg(test)]
 mod streams;
 #[cfg(test)]
-mod typed;
+mod terminal;

@@ -7,7 +7,7 @@ mod sessions;
 use crate::planning_tests::refusals::Failing;
 use crate::planning_tests::scenarios::{REFUSALS, Refusal, SCENARIOS, Scenario};
 use crate::planning_tests::sessions::{Step, played};
-use crate::table_tests::shown::{Short, is};
+use crate::table_tests::short::{Short, is};
 use std::alloc::Global;
 use std::marker::Brand;
 use std::sync::Arc;

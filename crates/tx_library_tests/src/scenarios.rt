@@ -1,10 +1,10 @@
 //! Small scenarios. What comes of each step is told by docs/PROTOCOL.md: locks live for 10 ticks,
 //! and the keys 4 and 7 lie between the regions.
-mod learnt;
-mod refused;
+mod reader;
+mod region_memory;
 mod resolver;
+mod session_memory;
 mod short_seats;
-mod unsent;
 
 use crate::harness::{Step, run};
 use std::alloc::Global;
@@ -27,11 +27,11 @@ fn first_wrong<R: Wait>(rt: &R, alloc: Global, scenarios: &[Scenario]) -> Option
 
 // And of all.
 fn first_wrong_of_all<R: Wait>(rt: &R, alloc: Global) -> Option<&'static str> {
-    first_wrong(rt, alloc, learnt::SCENARIOS)
-        .or(first_wrong(rt, alloc, refused::SCENARIOS))
+    first_wrong(rt, alloc, reader::SCENARIOS)
+        .or(first_wrong(rt, alloc, region_memory::SCENARIOS))
         .or(first_wrong(rt, alloc, resolver::SCENARIOS))
         .or(first_wrong(rt, alloc, short_seats::SCENARIOS))
-        .or(first_wrong(rt, alloc, unsent::SCENARIOS))
+        .or(first_wrong(rt, alloc, session_memory::SCENARIOS))
 }
 
 #[test]

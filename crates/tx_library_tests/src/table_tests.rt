@@ -1,7 +1,7 @@
 //! The rows of the case tables that an allowed request can meet, over records that other requests
 //! made. One conflict cannot be met so, since no other transaction's commit record comes to stand
 //! at a lock's commit timestamp: `conflict` has it of the plan alone.
-pub mod asked;
+pub mod ask;
 mod check_txn_status;
 mod collection;
 mod conflict;
@@ -9,7 +9,7 @@ mod prewrite;
 mod reads;
 pub mod rows;
 mod settlement;
-pub mod shown;
+pub mod short;
 mod states;
 
 use crate::table_tests::rows::{RegionRow, Row, first_wrong, first_wrong_in_region};

@@ -1,6 +1,7 @@
 //! The forms of steps, as worked scripts have them, and the causes why a line says none.
 use std::alloc::Global;
 use std::test::Fail;
+use tx_step_text::put_step;
 use tx_steps::{Line, Program};
 use tx_text::{Broken, Parts};
 use tx_types::{Cause, Key};
@@ -175,6 +176,36 @@ fn says(alloc: Global, program: Program, line: &str) -> Result<bool, Broken> {
         }
         Err(_) => Ok(false),
     }
+}
+
+// What is written for the step that a line says: no bytes where it says none.
+fn written(alloc: Global, program: Program, line: &str) -> Result<Vec<u8>, Broken> {
+    let mut out = Vec::new(alloc);
+    let mut parts = Parts::new();
+    if let Ok(line) = Line::read(alloc, 1, line.as_bytes(), &mut parts)? {
+        if let Some(step) = line.step(program) {
+            put_step(&mut out, &step)?;
+        }
+    }
+    Ok(out)
+}
+
+#[test]
+fn steps_are_written_as_they_are_read(rt: HostRuntime) -> Result<(), Fail> {
+    for line in STEPS {
+        let plain = if line.starts_with(' ') {
+            r#"["get","B","a"]"#
+        } else {
+            line
+        };
+        let out = written(rt.alloc(), Program::Simulate, line)?;
+        assert!(rt; out.as_slice() == plain.as_bytes(), "{line}");
+    }
+    for (line, _) in RUNS {
+        let out = written(rt.alloc(), Program::Run, line)?;
+        assert!(rt; out.as_slice() == line.as_bytes(), "{line}");
+    }
+    Ok(())
 }
 
 #[test]

@@ -1,6 +1,6 @@
 //! Runs, over both families.
 mod gates;
-mod refused;
+mod refusals;
 mod rendezvous;
 mod streams;
 mod transfers;

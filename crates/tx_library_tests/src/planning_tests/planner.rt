@@ -3,7 +3,7 @@ ghost use Rattle.std.specs.Prelude.{◌≡◌, ◌≤◌, [], IfSome, length};
 ghost use Rattle.tx_cells.specs.Contents.{nothing_held};
 ghost use Rattle.tx_journal.specs.Senders.{IsSender};
 
-use crate::table_tests::shown::{NOTHING, Short, answered};
+use crate::table_tests::short::{NOTHING, Short, answered};
 use std::alloc::Global;
 use std::mem::replace;
 use tx_cells::Families;

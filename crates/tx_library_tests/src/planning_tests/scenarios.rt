@@ -2,7 +2,7 @@
 use crate::calls::Op::*;
 use crate::planning_tests::planner::Handling::{Held, Lost, Plain, Planned};
 use crate::planning_tests::sessions::{SILENT, Step};
-use crate::table_tests::shown::{NOTHING, RAISED, ROLLED_BACK, Short, Word};
+use crate::table_tests::short::{NOTHING, RAISED, ROLLED_BACK, Short, Word};
 use tx_types::Mode;
 
 /// What sessions do before, the steps, what the last request that was held is answered, and how

@@ -4,7 +4,7 @@ ghost use Rattle.std.specs.Prelude.{◌≡◌};
 use crate::calls::{Came, Op, perform};
 use crate::others::met_by;
 use crate::planning_tests::planner::{Handling, Planner};
-use crate::table_tests::shown::{Short, Word, answered, is};
+use crate::table_tests::short::{Short, Word, answered, is};
 use std::alloc::Global;
 use tx_cells::{Families, Makes};
 use tx_client::{Miss, Session};

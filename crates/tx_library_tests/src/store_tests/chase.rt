@@ -1,8 +1,8 @@
 //! A plan that is stale three times is made under the lock: another thread reads, at timestamps
 //! that rise, whenever a request has looked at its key.
-pub mod chased;
+pub mod key_chase;
 
-use crate::store_tests::chase::chased::Chase;
+use crate::store_tests::chase::key_chase::Chase;
 use crate::store_tests::parts::Task;
 use crate::store_tests::plays;
 use std::alloc::Global;

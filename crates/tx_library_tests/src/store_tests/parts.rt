@@ -1,7 +1,7 @@
 //! What threads do at one store, again and again.
 use crate::calls::Op::{Commit, Declare, Draw, Get, Prewrite, Put};
 use crate::clients::{Call, Client, Site};
-use crate::store_tests::chase::chased::Chase;
+use crate::store_tests::chase::key_chase::Chase;
 use crate::stores::pair;
 use std::alloc::Global;
 use std::sync::Wait;

@@ -1,8 +1,8 @@
 //! The rows of CheckTxnStatus. A lock of the transaction that started at 5 is expired at 16.
-use crate::table_tests::asked::Ask::{self, Check, CheckForced, CheckOrRollBack};
+use crate::table_tests::ask::Ask::{self, Check, CheckForced, CheckOrRollBack};
 use crate::table_tests::rows::Row;
-use crate::table_tests::shown::Word::*;
-use crate::table_tests::shown::{BARE, BELOW, FUTURE, NOT_FOUND, ROLLED_BACK, Short};
+use crate::table_tests::short::Word::*;
+use crate::table_tests::short::{BARE, BELOW, FUTURE, NOT_FOUND, ROLLED_BACK, Short};
 use crate::table_tests::states::*;
 
 // What is told of the lock.

@@ -1,11 +1,11 @@
 //! The rows of RaiseSafe, LocksBelow and Collect.
-use crate::table_tests::asked::Ask::{
+use crate::table_tests::ask::Ask::{
     self, BatchRollback, Collect, Commit, Get, LocksBelow, Prewrite, RaiseSafe,
 };
-use crate::table_tests::asked::What::*;
+use crate::table_tests::ask::What::*;
 use crate::table_tests::rows::{RegionRow, Row};
-use crate::table_tests::shown::Word::*;
-use crate::table_tests::shown::{BARE, FUTURE, RAISED, Short};
+use crate::table_tests::short::Word::*;
+use crate::table_tests::short::{BARE, FUTURE, RAISED, Short};
 use crate::table_tests::states::*;
 
 // A read at 6.

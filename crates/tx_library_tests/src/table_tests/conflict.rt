@@ -1,5 +1,5 @@
 //! E2 to a commit: another transaction's commit record stands at the commit timestamp of a lock.
-use crate::table_tests::asked::key;
+use crate::table_tests::ask::key;
 use std::test::Fail;
 use tx_plan::{
     Answer, Commit, KeyChange, LockHead, Plan, PlannedAnswer, RecordHead, ResolveLock, TxnView,

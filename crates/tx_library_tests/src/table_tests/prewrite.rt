@@ -1,9 +1,9 @@
 //! The rows of Prewrite.
-use crate::table_tests::asked::Ask::{self, Async, BatchRollback, Commit, Get, Prewrite};
-use crate::table_tests::asked::What::*;
+use crate::table_tests::ask::Ask::{self, Async, BatchRollback, Commit, Get, Prewrite};
+use crate::table_tests::ask::What::*;
 use crate::table_tests::rows::{RegionRow, Row};
-use crate::table_tests::shown::Word::*;
-use crate::table_tests::shown::{ALREADY_ROLLED_BACK, BARE, EXISTS, FUTURE, Short};
+use crate::table_tests::short::Word::*;
+use crate::table_tests::short::{ALREADY_ROLLED_BACK, BARE, EXISTS, FUTURE, Short};
 use crate::table_tests::states::*;
 
 // In two phases, and async.

@@ -1,9 +1,9 @@
 //! The rows of Get and Scan.
-use crate::table_tests::asked::Ask::{self, BatchRollback, Commit, Get, Prewrite, Scan};
-use crate::table_tests::asked::What::*;
+use crate::table_tests::ask::Ask::{self, BatchRollback, Commit, Get, Prewrite, Scan};
+use crate::table_tests::ask::What::*;
 use crate::table_tests::rows::RegionRow;
-use crate::table_tests::shown::Word::*;
-use crate::table_tests::shown::{FUTURE, NOTHING, Short};
+use crate::table_tests::short::Word::*;
+use crate::table_tests::short::{FUTURE, NOTHING, Short};
 use crate::table_tests::states::*;
 
 // One byte at 2, deleted at 4, 300 bytes at 6, left at 8; a rollback at 9.

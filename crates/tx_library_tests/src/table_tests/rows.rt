@@ -1,6 +1,6 @@
 //! How a row is tried.
-use crate::table_tests::asked::{Ask, body, key};
-use crate::table_tests::shown::{Short, Stand, Word, answered, is, stands};
+use crate::table_tests::ask::{Ask, body, key};
+use crate::table_tests::short::{Short, Stand, Word, answered, is, stands};
 use std::alloc::Global;
 use tx_cells::{Families, Fresh};
 use tx_plan::Body;

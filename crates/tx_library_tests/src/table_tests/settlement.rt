@@ -1,11 +1,11 @@
 //! The rows of the requests that settle a transaction on a key: Commit, BatchRollback,
 //! TxnHeartBeat, CheckSecondaryLocks, ResolveLock.
-use crate::table_tests::asked::Ask::{
+use crate::table_tests::ask::Ask::{
     self, BatchRollback, CheckSecondaryLocks, Commit, ResolveLock, TxnHeartBeat,
 };
 use crate::table_tests::rows::Row;
-use crate::table_tests::shown::Word::*;
-use crate::table_tests::shown::{
+use crate::table_tests::short::Word::*;
+use crate::table_tests::short::{
     ALREADY_ROLLED_BACK, BARE, BELOW, LOCK_NOT_FOUND, MISSING, RESOLVED, ROLLED_BACK, Short,
 };
 use crate::table_tests::states::*;

@@ -1,8 +1,8 @@
 //! What was asked before: how the key `k` came to stand as it does, by requests alone. And what
 //! then stands there.
-use crate::table_tests::asked::Ask::{self, *};
-use crate::table_tests::asked::What::*;
-use crate::table_tests::shown::Stand;
+use crate::table_tests::ask::Ask::{self, *};
+use crate::table_tests::ask::What::*;
+use crate::table_tests::short::Stand;
 
 pub const FREE: &[Ask] = &[];
 

@@ -1,0 +1,3 @@
+pub mod StepTexts
+pub mod Sayable
+pub mod ReadBack
