@@ -140,8 +140,8 @@ module _ (bounds : List Key) (e : EngineState) (name : Text) (k now : ℕ) (old 
 
   ran : Runs LeastMinimum bounds e.network.history walk found new.seat.events
   ran =
-      let comes = walk_comes LeastMinimum bounds walk (read_ask LeastMinimum bounds least_suits r.lock old.state.start now)
-      r.mid r.after 0 answered found r.resolves in
+      let may = read_ask LeastMinimum bounds least_suits r.lock old.state.start now in
+      let comes = walk_comes LeastMinimum bounds walk may r.mid r.after 0 answered found r.resolves in
       let first = begins_length old.seat.events r.mid.events before in
       let last = begins_length r.after.events new.seat.events r.heard.knows in
       let all : length new.seat.events ≤ length old.seat.events + answered = omega (arith, alone, own) in
@@ -185,8 +185,8 @@ module _ (bounds : List Key) (e : EngineState) (name : Text) (k now : ℕ) (old 
             let goal = LeadsBy LeastMinimum bounds (λ n said left. (n ≡ with_live e k new)
             × (said ≡ reply.Status found) × (left ≡ later)) (λ c. ⊥) in
             subst goal (sym (at_lock ((led.0 ++ bits) ++ later)))
-            (subst (λ all. goal (runs bounds deliveries.Taken all e walk (λ x n left. learns n k old.state r.lock x left)))
-            (sym (append_assoc led.0 bits later))
+            (subst (λ all. goal (runs bounds deliveries.Taken all e walk
+            (λ x n left. learns n k old.state r.lock x left))) (sym (append_assoc led.0 bits later))
             (led.1 later (bits ++ later) (subst goal (sym (learns_some.1 later)) (
               λ i. with_live e k (record new { state = sym r.state i }),
               refl,
