@@ -18,17 +18,17 @@ use Rattle.tx_alone.specs.Turns.{IsStepOf}
 use Rattle.tx_alone.specs.Ways.{CountsAnswers, MakesBy}
 
 module _ (bounds : List Key) where
-  count : {R : Type 0} (w : Walk R) (k new : Known) (from : ℕ) (r : R)
+  pub walk_counts : {R : Type 0} (w : Walk R) (k new : Known) (from : ℕ) (r : R)
       → Sends (Replies {S = Unit {0}}) bounds k tt w r tt new → (to : ℕ) × Sends CountsAnswers bounds k from w r to new
-  count (ends x) k new from r (is, there, knows) = (from, (is, refl, knows))
-  count (grows more short) k new from r (inl sent) =
-      (let rest = count short k new from r sent in (rest.0, inl rest.1))
-  count (grows more short) k new from r (inr sent) =
-      (let rest = count more k new from r sent in (rest.0, inr rest.1))
-  count (asks body more) k new from r (Ok g, mid, then, is, learns, sent) =
-      let rest = count (more (response_of (Ok g))) then new (from + made_for g.answer) r sent in
+  walk_counts (ends x) k new from r (is, there, knows) = (from, (is, refl, knows))
+  walk_counts (grows more short) k new from r (inl sent) =
+      (let rest = walk_counts short k new from r sent in (rest.0, inl rest.1))
+  walk_counts (grows more short) k new from r (inr sent) =
+      (let rest = walk_counts more k new from r sent in (rest.0, inr rest.1))
+  walk_counts (asks body more) k new from r (Ok g, mid, then, is, learns, sent) =
+      let rest = walk_counts (more (response_of (Ok g))) then new (from + made_for g.answer) r sent in
       (rest.0, (Ok g, from + made_for g.answer, then, (is, refl), learns, rest.1))
-  count (asks body more) k new from r (Err l, mid, then, is, learns, sent) = absurd is
+  walk_counts (asks body more) k new from r (Err l, mid, then, is, learns, sent) = absurd is
 
   over : {R : Type 0} (w : Walk R) (k new : Known) (from to : ℕ) (r : R) → Sends CountsAnswers bounds k from w r to new
       → Sends (Replies {S = Unit {0}}) bounds k tt w r tt new
@@ -74,7 +74,7 @@ module _ (bounds : List Key) where
       → (answered : ℕ) × MakesBy CountsAnswers bounds what old 0 said new answered
   step_counts (step.Act name what) old new said (does, same) = (0, (does, refl))
   step_counts (step.Send name what d) old new said sent =
-      count (call_walk bounds old.state what) old.seat new.seat 0 (new.state, said) sent
+      walk_counts (call_walk bounds old.state what) old.seat new.seat 0 (new.state, said) sent
   step_counts (step.Begin name) old new said (is, same, there) = (0, (is, same, refl))
   step_counts (step.Deliver name) old new said (is, same, there) = (0, (is, same, refl))
   step_counts (step.Read key at) old new said (is, same, there) = (0, (is, same, refl))

@@ -16,3 +16,5 @@ pub mod CallTurns
 pub mod CountedWalks
 -- A step that is made over a store is its turn.
 pub mod StepTurns
+-- A step that resolves a lock is its turn.
+pub mod ResolveTurns

@@ -2,3 +2,5 @@
 pub mod Ways
 -- What a step is in the words of `simulate`.
 pub mod Turns
+-- What it makes of one that resolves a lock.
+pub mod Resolves

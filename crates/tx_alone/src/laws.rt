@@ -4,12 +4,14 @@ ghost use Rattle.std.specs.Prelude.{◌≡◌, ◌≢◌, ◌∷◌, true, ℕ, 
 ghost use Rattle.tx_types.specs.Names.{is_name};
 ghost use Rattle.tx_types.specs.declared.fault.Cause.TheVariants.{Name, Order};
 ghost use Rattle.tx_types.specs.declared.key.Key.{Key};
+ghost use Rattle.tx_types.specs.declared.lock.LockInfo.{LockInfo};
 ghost use Rattle.tx_core.specs.Recording.{owner};
 ghost use Rattle.tx_core.specs.declared.event.Event.{Event};
 ghost use Rattle.tx_core.specs.declared.event.Event.TheVariants.{Answered};
 ghost use Rattle.tx_core.specs.declared.event.Outcome.{Outcome};
 ghost use Rattle.tx_journal.specs.Known.{Known};
 ghost use Rattle.tx_transaction.specs.Sessions.{finish_of};
+ghost use Rattle.tx_client.specs.declared.resolved.Status.{Status};
 ghost use Rattle.tx_client.specs.Calls.{Records, Seated};
 ghost use Rattle.tx_store.specs.Stores.{Replies};
 ghost use Rattle.tx_steps.specs.Steps.{Text};
@@ -26,8 +28,10 @@ ghost use Rattle.tx_network.specs.Networks.{IsSet, NetworkParts};
 ghost use Rattle.tx_engine.specs.Semantics.{EngineState, sends_by, turn};
 ghost use Rattle.tx_engine.specs.Slots.{Did, GoesTo};
 ghost use Rattle.tx_transfer.specs.Acts.{Acts};
+ghost use Rattle.tx_transfer.specs.Resolutions.{ResolvesMet};
 ghost use Rattle.tx_transfer.specs.Sends.{SendsOver};
 ghost use Rattle.tx_transfer.specs.Steps.{Begun, Left};
+ghost use Rattle.tx_alone.specs.Resolves.{ResolvesOver};
 ghost use Rattle.tx_alone.specs.Ways.{CountsAnswers, IsAlone, MakesBy, PassesSo};
 ghost use Rattle.tx_alone.specs.Turns.{AnyMinimum, IsFree, IsLive, IsNamed, IsStepOf, IsTurn, IsTwoPhase, LeastMinimum, MakesAlone, with_begun, with_gone, with_live};
 
@@ -68,6 +72,22 @@ pub fn lives_are_turns()
         → IsTurn LeastMinimum bounds (step.Act name op.Stop) e (Ok reply.Fine) (with_gone e name k seat) }
     ensures unopened { (bounds : List Key) (e next : EngineState) (name : Text) (what : Step Text)
         → e.names name ≡ None → IsNamed name what → IsTurn LeastMinimum bounds what e (Err Name) next }
+{}
+
+/// So is a step that resolves the lock a session met, by a seat of its own, as `run` does it: what
+/// is found, and what the session learns of it. With no lock met it stops for `Order`.
+pub fn resolves_are_turns()
+    ensures turns { (bounds : List Key) (e : EngineState) (name : Text) (k now : ℕ) (old new : Seated) (found : Status)
+        (answered : ℕ) → IsLive bounds e name k old → ResolvesOver bounds now old found new answered
+        → IsAlone old.seat answered new.seat
+        → IsTurn LeastMinimum bounds (step.Act name (op.Resolve now)) e (Ok (reply.Status found)) (with_live e k new) }
+    ensures unmet { (bounds : List Key) (e next : EngineState) (name : Text) (k now : ℕ) (old : Seated)
+        → IsLive bounds e name k old → old.state.met ≡ None
+        → IsTurn LeastMinimum bounds (step.Act name (op.Resolve now)) e (Err Order) next }
+    ensures over { (bounds : List Key) (now : ℕ) (old new : Seated) (resolver after : Known) (lock : LockInfo)
+        (found : Status) → old.state.met ≡ Some lock
+        → ResolvesMet bounds old resolver (Some lock) (Some now) (Some found) new after
+        → (answered : ℕ) × ResolvesOver bounds now old found new answered }
 {}
 
 /// A call over the network of one thread is the turn of `simulate`, whatever becomes of its

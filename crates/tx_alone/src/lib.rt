@@ -8,6 +8,6 @@ mod steps;
 
 pub use laws::{
     a_store_is_a_way, answers_are_counted, calls_are_turns, lives_are_turns, one_event_is_alone,
-    steps_are_turns,
+    resolves_are_turns, steps_are_turns,
 };
 pub use steps::make;
