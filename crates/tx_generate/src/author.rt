@@ -7,10 +7,10 @@ use crate::lines::tick;
 use crate::play::Play;
 use crate::session::LiveSession;
 use crate::settings::{MAX_LETTERS, Settings};
-use crate::text::put_keys;
 use crate::word::Word;
 use std::alloc::{AllocError, Global};
 use tx_reply::ScriptReply;
+use tx_step_text::put_bounds;
 use tx_steps::{Call, Delivery, Op, Step};
 
 /// Thinks of steps by chance, and by what the replies so far tell.
@@ -61,7 +61,7 @@ impl Author {
         for region in 1..regions {
             keys.push(Word::Key((region * letters / regions) as u8))?;
         }
-        put_keys(line, keys.as_slice())
+        put_bounds(line, keys.as_slice())
     }
 
     /// How many keys there are.

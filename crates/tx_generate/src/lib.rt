@@ -17,7 +17,6 @@ mod scene;
 mod script;
 mod session;
 mod settings;
-mod text;
 mod thoughts;
 mod word;
 mod writer;

@@ -8,12 +8,12 @@ ghost use Rattle.tx_generate.specs.Scripts.{IsGrown, IsBegun, IsScript};
 
 use crate::author::Author;
 use crate::lines::{is_line, tick};
-use crate::text::put_line;
 use std::alloc::Global;
 use tx_cells::Families;
 use tx_journal::{JournalId, Opened};
 use tx_reply::ScriptReply;
 use tx_script::Player;
+use tx_step_text::put_step;
 use tx_text::Broken;
 
 /// How many thoughts are tried for a line, before a tick stands in for it.
@@ -65,7 +65,7 @@ fn try_thought<J: JournalId, F: Families + Drop>(
 {
     let step = author.think(left);
     let mut line = Vec::new(alloc);
-    put_line(&mut line, step)?;
+    put_step(&mut line, &step)?;
     if !is_line(line.as_slice()) {
         return Ok(false);
     }

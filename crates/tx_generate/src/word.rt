@@ -1,6 +1,10 @@
 //! The texts that a script has: names, keys and values.
+ghost use Rattle.std.specs.Prelude.{◌≡◌, ◌+◌, ◌%◌, ◌<◌, ◌++◌, replicate, OnOk, IsUtf8};
+ghost use Rattle.tx_generate.specs.Words.{numbered, word_text};
+
 use std::alloc::AllocError;
-use tx_text::put_digits;
+use tx_step_text::StepText;
+use tx_text::{put_digits, put_string};
 use tx_types::limits::MAX_VALUE_BYTES;
 
 /// How many bytes a long value has behind its number: more than a record has room for.
@@ -26,39 +30,60 @@ pub(crate) enum Word {
 }
 
 // The letter of this number.
-pub(crate) fn letter(number: u8) -> u8 {
+pub(crate) fn letter(number: u8) -> u8
+    ensures { result ≡ 97 + number % 26 }
+{
     b'a' + number % 26
 }
 
 // Appends a letter and a number.
-fn put_numbered(out: &mut Vec<u8>, letter: u8, number: u64) -> Result<(), AllocError> {
+#[tactic(auto, using(crate::proofs::Words::numbered_utf8))]
+fn put_numbered(out: &mut Vec<u8>, letter: u8, number: u64) -> Result<(), AllocError>
+    ensures bytes { OnOk result (out.new.items ≡ out.old.items ++ numbered letter number) }
+    ensures text { letter < 128 → IsUtf8 (numbered letter number) }
+{
     out.push(letter)?;
     put_digits(out, number)
 }
 
 // Appends a long value, which begins with its number, with so many bytes behind that.
-fn put_long(out: &mut Vec<u8>, number: u64, more: usize) -> Result<(), AllocError> {
+#[tactic(auto, using(crate::proofs::Words::long_utf8))]
+fn put_long(out: &mut Vec<u8>, number: u64, more: usize) -> Result<(), AllocError>
+    ensures bytes { OnOk result (out.new.items ≡ out.old.items ++ (numbered 108 number ++ replicate more 46)) }
+    ensures text { IsUtf8 (numbered 108 number ++ replicate more 46) }
+{
     put_numbered(out, b'l', number)?;
-    let len = out.len();
-    if let Some(long) = len.checked_add(more) {
-        out.resize(long, b'.')?;
+    match out.len().checked_add(more) {
+        Some(len) => out.resize(len, b'.'),
+        None => Err(AllocError),
     }
-    Ok(())
 }
 
-/// Appends the text between its quotes.
-pub(crate) fn put_word(out: &mut Vec<u8>, word: Word) -> Result<(), AllocError> {
-    out.push(b'"')?;
-    match word {
-        Word::Session(number) => put_numbered(out, b'T', number)?,
-        Word::Held(number) => put_numbered(out, b'h', number)?,
-        Word::Key(number) => out.push(letter(number))?,
-        Word::Value(number) => put_numbered(out, b'v', number)?,
-        Word::Many(number) => put_numbered(out, b'k', number)?,
-        Word::Empty => {}
-        Word::Long(number) => put_long(out, number, LONG_BYTES)?,
-        Word::TooLong(number) => put_long(out, number, MAX_VALUE_BYTES)?,
+impl Word {
+    // Appends the bytes of the text.
+    fn put_bytes(self, out: &mut Vec<u8>) -> Result<(), AllocError>
+        ensures bytes { OnOk result (out.new.items ≡ out.old.items ++ word_text self) }
+        ensures text { IsUtf8 (word_text self) }
+    {
+        match self {
+            Word::Session(number) => put_numbered(out, b'T', number),
+            Word::Held(number) => put_numbered(out, b'h', number),
+            Word::Key(number) => Ok(out.push(letter(number))?),
+            Word::Value(number) => put_numbered(out, b'v', number),
+            Word::Many(number) => put_numbered(out, b'k', number),
+            Word::Empty => Ok(()),
+            Word::Long(number) => put_long(out, number, LONG_BYTES),
+            Word::TooLong(number) => put_long(out, number, MAX_VALUE_BYTES),
+        }
     }
-    out.push(b'"')?;
-    Ok(())
+}
+
+impl StepText for Word {
+    ghost bytes = { word_text };
+
+    fn put(&self, out: &mut Vec<u8>) -> Result<(), AllocError> {
+        let mut text = Vec::new(out.allocator().clone()?);
+        self.put_bytes(&mut text)?;
+        put_string(out, text.as_slice())
+    }
 }

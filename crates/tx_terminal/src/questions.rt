@@ -8,6 +8,7 @@ use tx_command::{SIMULATE_HELP, topic};
 use tx_film::{RunQuestion, keys_of, lines_of};
 use tx_hints::escaped;
 use tx_script::{Broken, Plain, simulate, simulate_checked};
+use tx_step_text::put_step;
 use tx_steps::{Line, Op, Program, Step};
 use tx_streams::Steps;
 use tx_text::{Parts, finish, put_string, send};
@@ -103,16 +104,22 @@ fn put_keys(out: &mut Vec<u8>, keys: &[Key], replies: &[&[u8]]) -> Result<(), Al
     Ok(())
 }
 
+// Appends a step for each key that shows what stands on it. Keys that lines name are UTF-8.
+fn put_versions(out: &mut Vec<u8>, keys: &[Key]) -> Result<(), AllocError> {
+    'keys: for key in keys {
+        let text = str::from_utf8(key.as_bytes()).unwrap_or_default();
+        put_step(out, &Step::Versions(text))?;
+        out.push(b'\n')?;
+    }
+    Ok(())
+}
+
 // What stands on each key that the lines name.
 fn keys<F: Fresh>(alloc: Global, script: &[u8]) -> Result<Vec<u8>, Broken> {
     let lines = lines_of(alloc, script)?;
     let keys = keys_of(alloc, lines.as_slice())?;
     let mut shown = script.to_vec(alloc)?;
-    'keys: for key in &keys {
-        shown.extend_from_slice(b"[\"versions\",")?;
-        put_string(&mut shown, key.as_bytes())?;
-        shown.extend_from_slice(b"]\n")?;
-    }
+    put_versions(&mut shown, keys.as_slice())?;
     let mut replies = Vec::new(alloc);
     simulate::<F, _, _, _>(
         alloc,
