@@ -8,25 +8,25 @@ ghost use Rattle.tx_text.specs.Output.{AppendsPart};
 ghost use Rattle.tx_recording.specs.Recordings.{IsRecording};
 ghost use Rattle.tx_import.specs.Numbers.{AreInTurn};
 ghost use Rattle.tx_import.specs.Recorders.{IsTimely};
-ghost use Rattle.tx_answers.specs.Words.{verdict_text};
+ghost use Rattle.tx_verdict_text.specs.Words.{verdict_text};
 ghost use Rattle.tx_answers.specs.Traces.{IsTrace};
-ghost use Rattle.tx_answers.specs.Texts.{end_of, cycle_text, refuted_text, read_text, IsTextOf};
-ghost use Rattle.tx_answers.specs.Answers.{IsOne, IsSaid, IsHeard, line_of as line_of_wrong, IsAnswer, WritesAnswer, Breaks};
+ghost use Rattle.tx_answers.specs.Pages.{framed_text};
+ghost use Rattle.tx_answers.specs.Texts.{end_of, cycle_text, refuted_text, read_text, noted_text, is_page, IsPlain, IsTextOf};
+ghost use Rattle.tx_answers.specs.Answers.{IsOne, IsSaidTo, IsSaid, IsHeard, line_of as line_of_wrong, IsAnswer, WritesAnswer, Breaks};
 
 use crate::all::judged_to_end;
-use crate::drawing::{drawing, refuted_drawing};
-use crate::line::verdict_line;
-use crate::picture::{picture, refuted_picture};
-use crate::reads::{read_drawing, read_picture};
+use crate::page::{framed, section};
 use crate::sentences::{sentences, wrong_sentence};
 use crate::trace::trace_of;
-use std::alloc::Global;
+use std::alloc::{AllocError, Global};
 use std::io::{BufRead, Write};
+use tx_diagram::{drawing, picture, read_drawing, read_picture, refuted_drawing, refuted_picture};
 use tx_import::{History, LineFault, Misrecorded, bare_of, find_misrecorded, read_history};
 use tx_judge::judge;
 use tx_text::{Broken, finish, put_fault, send};
 use tx_types::Cause;
 use tx_verdict::{Cycle, Fact, Question, Refutation, Timestamps, Verdict};
+use tx_verdict_text::verdict_line;
 
 /// How a no is told: its cycle, its refutation, or its read that cannot be.
 #[derive(Clone, Copy, Debug, PartialEq, Eq)]
@@ -36,6 +36,8 @@ pub enum CycleForm {
     Graph,
     /// As an SVG.
     Picture,
+    /// Each verdict as a section of an HTML page, with its line, why it is one, and its pictures.
+    Page,
 }
 
 /// What is asked of a history.
@@ -90,20 +92,42 @@ pub(crate) fn end_of(verdict: &Verdict) -> ImportEnd
     }
 }
 
+// The line of what is no no.
+fn noted(
+    alloc: Global,
+    form: CycleForm,
+    history: &History,
+    verdict: &Verdict,
+) -> Result<Vec<u8>, Broken>
+    ensures { IfOk result (λ text. text.items ≡ noted_text form (verdict_text history.now verdict.now)) }
+{
+    let line = verdict_line(alloc, history, verdict)?;
+    match form {
+        CycleForm::Line | CycleForm::Picture | CycleForm::Page => Ok(line),
+        CycleForm::Graph => {
+            let mut text = Vec::new(alloc);
+            text.extend_from_slice(b"// ")?;
+            text.extend_from_slice(line.as_slice())?;
+            Ok(text)
+        }
+    }
+}
+
 // What is written of a yes where a trace is asked for. The line, if the machine does not make it.
 fn traced(
     alloc: Global,
+    form: CycleForm,
     history: &History,
     verdict: &Verdict,
     timestamps: &Timestamps,
 ) -> Result<Vec<u8>, Broken>
     requires { IsRecording history.now.recording }
     ensures { IfOk result (λ text. IsTrace history.now timestamps.now text.items
-        ⊎ (text.items ≡ verdict_text history.now verdict.now)) }
+        ⊎ (text.items ≡ noted_text form (verdict_text history.now verdict.now))) }
 {
     match trace_of(alloc, history, timestamps)? {
         Some(text) => Ok(text),
-        None => Ok(verdict_line(alloc, history, verdict)?),
+        None => noted(alloc, form, history, verdict),
     }
 }
 
@@ -119,7 +143,7 @@ fn cycle_text(
     ensures { IfOk result (λ text. text.items ≡ cycle_text form history.now cycle.now) }
 {
     match form {
-        CycleForm::Line => Ok(verdict_line(alloc, history, verdict)?),
+        CycleForm::Line | CycleForm::Page => Ok(verdict_line(alloc, history, verdict)?),
         CycleForm::Graph => Ok(drawing(alloc, history, cycle)?),
         CycleForm::Picture => Ok(picture(alloc, history, cycle)?),
     }
@@ -137,7 +161,7 @@ fn refuted_text(
     ensures { IfOk result (λ text. text.items ≡ refuted_text form history.now refutation.now) }
 {
     match form {
-        CycleForm::Line => Ok(verdict_line(alloc, history, verdict)?),
+        CycleForm::Line | CycleForm::Page => Ok(verdict_line(alloc, history, verdict)?),
         CycleForm::Graph => Ok(refuted_drawing(alloc, history, refutation)?),
         CycleForm::Picture => Ok(refuted_picture(alloc, history, refutation)?),
     }
@@ -155,9 +179,42 @@ fn read_text(
     ensures { IfOk result (λ text. text.items ≡ read_text form history.now fact) }
 {
     match form {
-        CycleForm::Line => Ok(verdict_line(alloc, history, verdict)?),
+        CycleForm::Line | CycleForm::Page => Ok(verdict_line(alloc, history, verdict)?),
         CycleForm::Graph => Ok(read_drawing(alloc, history, fact)?),
         CycleForm::Picture => Ok(read_picture(alloc, history, fact)?),
+    }
+}
+
+// Whether a page is asked for.
+fn is_page(form: CycleForm) -> bool
+    ensures { result ≡ is_page form }
+{
+    match form {
+        CycleForm::Line | CycleForm::Graph | CycleForm::Picture => false,
+        CycleForm::Page => true,
+    }
+}
+
+// What is written of a verdict but on a page.
+fn plain_text(
+    alloc: Global,
+    options: ImportOptions,
+    history: &History,
+    verdict: &Verdict,
+) -> Result<Vec<u8>, Broken>
+    requires { IsRecording history.now.recording }
+    ensures { IfOk result (λ text. IsPlain options history.now verdict.now text.items) }
+{
+    let form = options.form;
+    match verdict {
+        Verdict::Yes(timestamps) if options.trace => {
+            traced(alloc, form, history, verdict, timestamps)
+        }
+        Verdict::No(cycle) => cycle_text(alloc, form, history, verdict, cycle),
+        Verdict::Refuted(refutation) => refuted_text(alloc, form, history, verdict, refutation),
+        Verdict::Fact(fact) => read_text(alloc, form, history, verdict, *fact),
+        Verdict::Twice(..) => Ok(verdict_line(alloc, history, verdict)?),
+        _ => noted(alloc, form, history, verdict),
     }
 }
 
@@ -171,15 +228,10 @@ pub(crate) fn answer_text(
     requires { IsRecording history.now.recording }
     ensures { IfOk result (λ text. IsTextOf options history.now verdict.now text.items) }
 {
-    match verdict {
-        Verdict::Yes(timestamps) if options.trace => traced(alloc, history, verdict, timestamps),
-        Verdict::No(cycle) => cycle_text(alloc, options.form, history, verdict, cycle),
-        Verdict::Refuted(refutation) => {
-            refuted_text(alloc, options.form, history, verdict, refutation)
-        }
-        Verdict::Fact(fact) => read_text(alloc, options.form, history, verdict, *fact),
-        _ => Ok(verdict_line(alloc, history, verdict)?),
+    if is_page(options.form) {
+        return Ok(section(alloc, history, options.question.level, verdict)?);
     }
+    plain_text(alloc, options, history, verdict)
 }
 
 // What is said of a history that was read, by one verdict.
@@ -194,16 +246,41 @@ fn judged_once(alloc: Global, options: ImportOptions, history: &History) -> Resu
     Ok(Answer { text, end, why })
 }
 
+// What is said of a history that was read: all to the end, or one verdict.
+fn judged_to(alloc: Global, options: ImportOptions, history: &History) -> Result<Answer, Broken>
+    requires recording { IsRecording history.now.recording }
+    requires in_turn { AreInTurn history.now.recording.transactions.items }
+    ensures { IfOk result (λ answer. IsSaidTo options.all options history.now answer.text.items answer.end) }
+{
+    if options.all {
+        return judged_to_end(alloc, options, history);
+    }
+    judged_once(alloc, options, history)
+}
+
+// What is said, on a page where that is asked for.
+fn on_page(alloc: Global, is_page: bool, answer: Answer) -> Result<Answer, AllocError>
+    ensures text { IfOk result (λ made. made.text.items ≡ framed_text is_page answer.text.items) }
+    ensures end { IfOk result (λ made. made.end ≡ answer.end) }
+{
+    if !is_page {
+        return Ok(answer);
+    }
+    Ok(Answer {
+        text: framed(alloc, answer.text.as_slice())?,
+        end: answer.end,
+        why: answer.why,
+    })
+}
+
 // What is said of a history that was read.
 fn judged(alloc: Global, options: ImportOptions, history: &History) -> Result<Answer, Broken>
     requires recording { IsRecording history.now.recording }
     requires in_turn { AreInTurn history.now.recording.transactions.items }
     ensures { IfOk result (λ answer. IsSaid options history.now answer.text.items answer.end) }
 {
-    if options.all {
-        return judged_to_end(alloc, options, history);
-    }
-    judged_once(alloc, options, history)
+    let answer = judged_to(alloc, options, history)?;
+    Ok(on_page(alloc, is_page(options.form), answer)?)
 }
 
 // What is said of a fault.
