@@ -1,5 +1,5 @@
 //! Judging a history: its lines are read, and one line is written with the verdict.
-ghost use Rattle.std.specs.Prelude.{◌≡◌, ◌⊎◌, OnOk, OnErr, IfOk, IfErr, IfSome};
+ghost use Rattle.std.specs.Prelude.{◌≡◌, ◌⊎◌, ◌++◌, codes, OnOk, OnErr, IfOk, IfErr, IfSome};
 ghost use Rattle.std.specs.Io.KnownBytes.{Appends};
 ghost use Rattle.tx_text.specs.Faults.{fault_words};
 ghost use Rattle.tx_text.specs.Lines.{lines_of};
@@ -11,7 +11,7 @@ ghost use Rattle.tx_import.specs.Recorders.{IsTimely};
 ghost use Rattle.tx_verdict_text.specs.Words.{verdict_text};
 ghost use Rattle.tx_answers.specs.Traces.{IsTrace};
 ghost use Rattle.tx_answers.specs.Pages.{framed_text};
-ghost use Rattle.tx_answers.specs.Texts.{end_of, cycle_text, refuted_text, read_text, noted_text, is_page, IsPlain, IsTextOf};
+ghost use Rattle.tx_answers.specs.Texts.{end_of, cycle_text, refuted_text, read_text, noted_text, is_page, IsPlain, IsTextIn, IsTextOf};
 ghost use Rattle.tx_answers.specs.Answers.{IsOne, IsSaidTo, IsSaid, IsHeard, line_of as line_of_wrong, IsAnswer, WritesAnswer, Breaks};
 
 use crate::all::judged_to_end;
@@ -92,6 +92,16 @@ pub(crate) fn end_of(verdict: &Verdict) -> ImportEnd
     }
 }
 
+// A line as a remark among graphs.
+fn remark(alloc: Global, line: &[u8]) -> Result<Vec<u8>, AllocError>
+    ensures { IfOk result (λ text. text.items ≡ codes "// " ++ line.now) }
+{
+    let mut text = Vec::new(alloc);
+    text.extend_from_slice(b"// ")?;
+    text.extend_from_slice(line)?;
+    Ok(text)
+}
+
 // The line of what is no no.
 fn noted(
     alloc: Global,
@@ -104,12 +114,7 @@ fn noted(
     let line = verdict_line(alloc, history, verdict)?;
     match form {
         CycleForm::Line | CycleForm::Picture | CycleForm::Page => Ok(line),
-        CycleForm::Graph => {
-            let mut text = Vec::new(alloc);
-            text.extend_from_slice(b"// ")?;
-            text.extend_from_slice(line.as_slice())?;
-            Ok(text)
-        }
+        CycleForm::Graph => Ok(remark(alloc, line.as_slice())?),
     }
 }
 
@@ -213,9 +218,28 @@ fn plain_text(
         Verdict::No(cycle) => cycle_text(alloc, form, history, verdict, cycle),
         Verdict::Refuted(refutation) => refuted_text(alloc, form, history, verdict, refutation),
         Verdict::Fact(fact) => read_text(alloc, form, history, verdict, *fact),
+        Verdict::Yes(_) => noted(alloc, form, history, verdict),
+        Verdict::Open(_) => noted(alloc, form, history, verdict),
+        Verdict::Unknown => noted(alloc, form, history, verdict),
         Verdict::Twice(..) => Ok(verdict_line(alloc, history, verdict)?),
-        _ => noted(alloc, form, history, verdict),
     }
+}
+
+// What is written of a verdict: a section where a page is asked for.
+fn text_in(
+    alloc: Global,
+    paged: bool,
+    options: ImportOptions,
+    history: &History,
+    verdict: &Verdict,
+) -> Result<Vec<u8>, Broken>
+    requires { IsRecording history.now.recording }
+    ensures { IfOk result (λ text. IsTextIn paged options history.now verdict.now text.items) }
+{
+    if paged {
+        return Ok(section(alloc, history, options.question.level, verdict)?);
+    }
+    plain_text(alloc, options, history, verdict)
 }
 
 /// What is written of a verdict.
@@ -228,10 +252,8 @@ pub(crate) fn answer_text(
     requires { IsRecording history.now.recording }
     ensures { IfOk result (λ text. IsTextOf options history.now verdict.now text.items) }
 {
-    if is_page(options.form) {
-        return Ok(section(alloc, history, options.question.level, verdict)?);
-    }
-    plain_text(alloc, options, history, verdict)
+    let paged = is_page(options.form);
+    text_in(alloc, paged, options, history, verdict)
 }
 
 // What is said of a history that was read, by one verdict.
@@ -259,11 +281,11 @@ fn judged_to(alloc: Global, options: ImportOptions, history: &History) -> Result
 }
 
 // What is said, on a page where that is asked for.
-fn on_page(alloc: Global, is_page: bool, answer: Answer) -> Result<Answer, AllocError>
-    ensures text { IfOk result (λ made. made.text.items ≡ framed_text is_page answer.text.items) }
+fn on_page(alloc: Global, paged: bool, answer: Answer) -> Result<Answer, AllocError>
+    ensures text { IfOk result (λ made. made.text.items ≡ framed_text paged answer.text.items) }
     ensures end { IfOk result (λ made. made.end ≡ answer.end) }
 {
-    if !is_page {
+    if !paged {
         return Ok(answer);
     }
     Ok(Answer {
@@ -280,7 +302,9 @@ fn judged(alloc: Global, options: ImportOptions, history: &History) -> Result<An
     ensures { IfOk result (λ answer. IsSaid options history.now answer.text.items answer.end) }
 {
     let answer = judged_to(alloc, options, history)?;
-    Ok(on_page(alloc, is_page(options.form), answer)?)
+    let paged = is_page(options.form);
+    let made = on_page(alloc, paged, answer)?;
+    Ok(made)
 }
 
 // What is said of a fault.

@@ -44,6 +44,20 @@ fn put_section(
     out.extend_from_slice(b"</section>\n")
 }
 
+// A line, what is said of it, and pictures.
+fn section_of(
+    alloc: Global,
+    line: &[u8],
+    why: &[u8],
+    pictures: &[u8],
+) -> Result<Vec<u8>, AllocError>
+    ensures { IfOk result (λ text. text.items ≡ section_text line.now why.now pictures.now) }
+{
+    let mut out = Vec::new(alloc);
+    put_section(&mut out, line, why, pictures)?;
+    Ok(out)
+}
+
 /// A verdict on a page.
 pub(crate) fn section(
     alloc: Global,
@@ -56,14 +70,8 @@ pub(crate) fn section(
     let line = verdict_line(alloc, history, verdict)?;
     let why = plain_sentences(alloc, history, level, verdict)?;
     let pictures = pictures(alloc, history, verdict)?;
-    let mut out = Vec::new(alloc);
-    put_section(
-        &mut out,
-        line.as_slice(),
-        why.as_slice(),
-        pictures.as_slice(),
-    )?;
-    Ok(out)
+    let made = section_of(alloc, line.as_slice(), why.as_slice(), pictures.as_slice())?;
+    Ok(made)
 }
 
 /// What stands on a page, within its frame.

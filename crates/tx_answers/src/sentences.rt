@@ -1,6 +1,6 @@
 //! Why a verdict is one, in sentences for who reads them: one an edge of a cycle.
 use std::alloc::{AllocError, Global};
-use tx_diagram::{put_read_shown, put_shown};
+use tx_acts::{put_read_shown, put_shown};
 use tx_import::{History, Misrecorded};
 use tx_recording::Outcome;
 use tx_text::put_digits;

@@ -19,7 +19,7 @@ use Rattle.tx_ring.specs.Rings.{reach_of, head_text, tie_text, end_text}
 use Rattle.tx_verdict_text.specs.Words.{edge_word, cycle_word}
 use Rattle.tx_diagram.specs.Drawings.{label_text, order_text}
 use Rattle.tx_diagram.specs.Boxes.{id_text, shown_of, box_of}
-use Rattle.tx_diagram.specs.Shown.{shown_text}
+use Rattle.tx_acts.specs.Shown.{shown_text}
 
 -- the greatest of so many numbers
 abbrev pub most_of : (ℕ → ℕ) → ℕ → ℕ
@@ -47,12 +47,12 @@ abbrev pub known_keys : Option ℕ → List ℕ
 known_keys None = []
 known_keys (Some k) = k ∷ []
 
-abbrev pub key_of : CycleStep → List ℕ
-key_of s = known_keys s.key
+abbrev pub key_at : List CycleStep → ℕ → List ℕ
+key_at steps i = known_keys (step_at steps i).key
 
 -- the keys of edges
 abbrev pub keys_of : List CycleStep → List ℕ
-keys_of steps = flat_map key_of steps
+keys_of steps = each_of (key_at steps) (length steps)
 
 -- how many operations are shown of the transaction that an edge leaves, where these keys matter
 abbrev pub rows_at : History → List ℕ → CycleStep → ℕ

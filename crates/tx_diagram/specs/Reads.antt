@@ -12,7 +12,7 @@ use Rattle.tx_ring.specs.Rings.{reach_of, head_text, tie_text, box_end_text, clo
 use Rattle.tx_verdict_text.specs.Words.{key_data, known_value, rule_word}
 use Rattle.tx_diagram.specs.Drawings.{quoted}
 use Rattle.tx_diagram.specs.Boxes.{id_text, shown_of, box_of}
-use Rattle.tx_diagram.specs.Shown.{read_shown}
+use Rattle.tx_acts.specs.Shown.{read_shown}
 
 -- what was read: a key, and its value
 abbrev pub read_text : History → Fact → List ℕ

@@ -1,14 +1,15 @@
 //! The box of a transaction in a picture: its line, how it ended, and its operations.
-ghost use Rattle.std.specs.Prelude.{◌≡◌, ◌++◌, length, OnOk, IfOk};
-ghost use Rattle.tx_diagram.specs.Boxes.{id_text, line_word, outcome_text, process_text, number_text, ended_text, few_text, about_text, shown_of, op_row, rows_text, filled_text, box_of};
+ghost use Rattle.std.specs.Prelude.{◌≡◌, ◌<◌, ◌++◌, length, OnOk, IfOk};
+ghost use Rattle.tx_ring.specs.Rings.{row_text};
+ghost use Rattle.tx_acts.specs.Ops.{op_line};
+ghost use Rattle.tx_diagram.specs.Boxes.{id_text, shown_of, op_row, rows_text, filled_text, box_of};
 
-use crate::ops::{ops_at, put_op_line, shown_ops, transaction_at};
 use std::alloc::{AllocError, Global};
+use tx_acts::{about, op_line, ops_at, shown_ops};
 use tx_import::History;
-use tx_recording::{Op, Outcome, Transaction};
+use tx_recording::Op;
 use tx_ring::{put_box, put_row};
-use tx_text::put_digits;
-use tx_verdict_text::{put_id, put_process};
+use tx_verdict_text::put_id;
 
 /// The id of a transaction.
 pub(crate) fn name(alloc: Global, history: &History, txn: u32) -> Result<Vec<u8>, AllocError>
@@ -16,94 +17,6 @@ pub(crate) fn name(alloc: Global, history: &History, txn: u32) -> Result<Vec<u8>
 {
     let mut text = Vec::new(alloc);
     put_id(&mut text, history, txn)?;
-    Ok(text)
-}
-
-/// Appends the number of the line that says a transaction.
-pub(crate) fn put_line(out: &mut Vec<u8>, txn: u32) -> Result<(), AllocError>
-    ensures { OnOk result (out.new.items ≡ out.old.items ++ line_word txn) }
-{
-    out.extend_from_slice(b"line ")?;
-    put_digits(out, u64::from(txn) + 1)
-}
-
-// How a transaction ended.
-fn outcome_text(outcome: Outcome) -> &'static str
-    ensures { result.now ≡ outcome_text outcome }
-{
-    match outcome {
-        Outcome::Ok => ", ok",
-        Outcome::Fail => ", fail",
-        Outcome::Info => ", info",
-    }
-}
-
-/// Appends a process, where there is one.
-pub(crate) fn put_known_process(
-    out: &mut Vec<u8>,
-    history: &History,
-    process: Option<u32>,
-) -> Result<(), AllocError>
-    ensures { OnOk result (out.new.items ≡ out.old.items ++ process_text history.now process) }
-{
-    let Some(process) = process else {
-        return Ok(());
-    };
-    out.extend_from_slice(b", process ")?;
-    put_process(out, history, process)
-}
-
-/// Appends a number behind words, where there is one.
-pub(crate) fn put_number(
-    out: &mut Vec<u8>,
-    words: &[u8],
-    number: Option<u64>,
-) -> Result<(), AllocError>
-    ensures { OnOk result (out.new.items ≡ out.old.items ++ number_text words.now number) }
-{
-    let Some(number) = number else {
-        return Ok(());
-    };
-    out.extend_from_slice(words)?;
-    put_digits(out, number)
-}
-
-// Appends how a transaction ended, who ran it, and when.
-fn put_ended(
-    out: &mut Vec<u8>,
-    history: &History,
-    transaction: Transaction,
-) -> Result<(), AllocError>
-    ensures { OnOk result (out.new.items ≡ out.old.items ++ ended_text history.now transaction) }
-{
-    out.extend_from_slice(outcome_text(transaction.outcome).as_bytes())?;
-    put_known_process(out, history, transaction.process)?;
-    put_number(out, b", start ", transaction.began)?;
-    put_number(out, b", end ", transaction.ended)
-}
-
-// Appends how many operations are shown, where these are not all.
-fn put_few(out: &mut Vec<u8>, shown: usize, all: usize) -> Result<(), AllocError>
-    ensures { OnOk result (out.new.items ≡ out.old.items ++ few_text shown all) }
-{
-    if shown >= all {
-        return Ok(());
-    }
-    out.extend_from_slice(b", ")?;
-    put_digits(out, shown as u64)?;
-    out.extend_from_slice(b" of ")?;
-    put_digits(out, all as u64)?;
-    out.extend_from_slice(b" operations")
-}
-
-// What is said of a transaction of which so many operations are shown.
-fn about(alloc: Global, history: &History, txn: u32, shown: usize) -> Result<Vec<u8>, AllocError>
-    ensures { IfOk result (λ text. text.items ≡ about_text history.now txn shown) }
-{
-    let mut text = Vec::new(alloc);
-    put_line(&mut text, txn)?;
-    put_ended(&mut text, history, transaction_at(&history.recording, txn))?;
-    put_few(&mut text, shown, ops_at(history, txn).len())?;
     Ok(text)
 }
 
@@ -119,8 +32,22 @@ pub(crate) fn shown_of(
     shown_ops(alloc, keys, ops_at(history, txn))
 }
 
-// Appends the row of the operation at a place.
+// Appends the row of an operation.
 fn put_op_row(
+    alloc: Global,
+    out: &mut Vec<u8>,
+    history: &History,
+    number: usize,
+    op: Op,
+) -> Result<(), AllocError>
+    ensures { OnOk result (out.new.items ≡ out.old.items ++ row_text number (op_line history.now op)) }
+{
+    let line = op_line(alloc, history, op)?;
+    put_row(out, number, line.as_slice())
+}
+
+// Appends the row of the operation at a place.
+fn put_op_row_at(
     alloc: Global,
     out: &mut Vec<u8>,
     history: &History,
@@ -130,9 +57,7 @@ fn put_op_row(
     requires { place < length ops.now }
     ensures { OnOk result (out.new.items ≡ out.old.items ++ op_row history.now ops.now place) }
 {
-    let mut line = Vec::new(alloc);
-    put_op_line(alloc, &mut line, history, ops[place])?;
-    put_row(out, place, line.as_slice())
+    put_op_row(alloc, out, history, place, ops[place])
 }
 
 // Appends operations, a row each.
@@ -145,7 +70,7 @@ fn put_rows(
     ensures { OnOk result (out.new.items ≡ out.old.items ++ rows_text history.now ops.now) }
 {
     for i in 0..ops.len() {
-        put_op_row(alloc, out, history, ops, i)?;
+        put_op_row_at(alloc, out, history, ops, i)?;
     }
     Ok(())
 }

@@ -5,12 +5,9 @@
 
 mod boxes;
 mod drawing;
-mod ops;
 mod picture;
 mod reads;
-mod shown;
 
 pub use drawing::{drawing, refuted_drawing};
 pub use picture::{picture, refuted_picture, refuted_pictures};
 pub use reads::{read_drawing, read_picture};
-pub use shown::{put_read_shown, put_shown};

@@ -3,14 +3,14 @@ ghost use Rattle.std.specs.Prelude.{◌≡◌, ◌<◌, ◌++◌, length, OnOk, 
 ghost use Rattle.std.specs.List.{flat_map};
 ghost use Rattle.tx_verdict.specs.Steps.{step_at};
 ghost use Rattle.tx_ring.specs.Markup.{each_of};
-ghost use Rattle.tx_diagram.specs.Pictures.{told_text, sense_text, reach_at, most_of, key_of, keys_of, rows_at, rows_of, tied_text, tie_at, piece_text, piece_at, last_word, ringed_text, picture_of, picture_text, refuted_picture, settled_picture, lemma_picture, refuted_pictures};
+ghost use Rattle.tx_diagram.specs.Pictures.{told_text, sense_text, reach_at, most_of, known_keys, key_at, keys_of, rows_at, rows_of, tied_text, tie_at, piece_text, piece_at, last_word, ringed_text, picture_of, picture_text, refuted_picture, settled_picture, lemma_picture, refuted_pictures};
+ghost use Rattle.tx_acts.specs.Shown.{shown_text};
 ghost use Rattle.tx_ring.specs.Rings.{end_text};
-ghost use Rattle.tx_verdict_text.specs.Words.{edge_word as edge_word_of};
 
 use crate::boxes::{Look, put_box_of, shown_of};
 use crate::drawing::{label, order_title};
-use crate::shown::put_shown;
 use std::alloc::{AllocError, Global};
+use tx_acts::put_shown;
 use tx_import::History;
 use tx_ring::{Subject, Tie, put_end, put_head, put_tie, reach_of};
 use tx_verdict::{Cycle, CycleStep, Edge, Lemma, Refutation, Settled};
@@ -84,15 +84,23 @@ fn reach_over(alloc: Global, history: &History, steps: &[CycleStep]) -> Result<u
     Ok(most)
 }
 
-// Adds the key of an edge, where it has one.
-fn put_key_of(keys: &mut Vec<u32>, step: CycleStep) -> Result<(), AllocError>
-    ensures { OnOk result (keys.new.items ≡ keys.old.items ++ key_of step) }
+// Adds a key, where there is one.
+fn put_known_key(keys: &mut Vec<u32>, key: Option<u32>) -> Result<(), AllocError>
+    ensures { OnOk result (keys.new.items ≡ keys.old.items ++ known_keys key) }
 {
-    let Some(key) = step.key else {
+    let Some(key) = key else {
         return Ok(());
     };
     keys.push(key)?;
     Ok(())
+}
+
+// Adds the key of the edge at a place, where it has one.
+fn put_key_at(keys: &mut Vec<u32>, steps: &[CycleStep], place: usize) -> Result<(), AllocError>
+    requires { place < length steps.now }
+    ensures { OnOk result (keys.new.items ≡ keys.old.items ++ key_at steps.now place) }
+{
+    put_known_key(keys, steps[place].key)
 }
 
 // The keys of edges.
@@ -100,8 +108,8 @@ fn keys_of(alloc: Global, steps: &[CycleStep]) -> Result<Vec<u32>, AllocError>
     ensures { IfOk result (λ keys. keys.items ≡ keys_of steps.now) }
 {
     let mut keys = Vec::new(alloc);
-    for step in steps {
-        put_key_of(&mut keys, *step)?;
+    for i in 0..steps.len() {
+        put_key_at(&mut keys, steps, i)?;
     }
     Ok(keys)
 }
@@ -115,7 +123,8 @@ fn rows_at(
 ) -> Result<usize, AllocError>
     ensures { IfOk result (λ rows. rows ≡ rows_at history.now keys.now step) }
 {
-    Ok(shown_of(alloc, history, keys, step.from)?.len())
+    let shown = shown_of(alloc, history, keys, step.from)?;
+    Ok(shown.len())
 }
 
 // How many rows each box has.
@@ -134,6 +143,15 @@ fn rows_of(
     Ok(most)
 }
 
+// What shows an edge.
+fn shown(alloc: Global, history: &History, step: CycleStep) -> Result<Vec<u8>, AllocError>
+    ensures { IfOk result (λ text. text.items ≡ shown_text history.now step) }
+{
+    let mut text = Vec::new(alloc);
+    put_shown(alloc, &mut text, history, step)?;
+    Ok(text)
+}
+
 // Appends the edge that leaves a box, and the end of the box.
 fn put_tied(
     alloc: Global,
@@ -147,8 +165,7 @@ fn put_tied(
 {
     let label = label(alloc, history, step)?;
     let sense = sense(alloc, history, step)?;
-    let mut shown = Vec::new(alloc);
-    put_shown(alloc, &mut shown, history, step)?;
+    let shown = shown(alloc, history, step)?;
     put_tie(
         out,
         rows,
@@ -164,16 +181,24 @@ fn put_piece(
     alloc: Global,
     out: &mut Vec<u8>,
     history: &History,
-    look: Look<'_>,
+    keys: &[u32],
+    rows: usize,
+    place: usize,
     tie: Tie,
     step: CycleStep,
 ) -> Result<(), AllocError>
-    requires { look.kind.now ≡ edge_word_of step.edge }
     ensures { OnOk result (out.new.items ≡ out.old.items
-        ++ piece_text history.now look.keys.now look.rows look.place tie step) }
+        ++ piece_text history.now keys.now rows place tie step) }
 {
+    let kind = edge_word(step.edge);
+    let look = Look {
+        keys,
+        rows,
+        place,
+        kind,
+    };
     put_box_of(alloc, out, history, look, step.from)?;
-    put_tied(alloc, out, history, look.rows, tie, step)
+    put_tied(alloc, out, history, rows, tie, step)
 }
 
 // What leads to the next box from that at a place, of so many.
@@ -202,14 +227,8 @@ fn put_piece_at(
     ensures { OnOk result (out.new.items ≡ out.old.items
         ++ piece_at history.now keys.now rows steps.now place) }
 {
-    let step = steps[place];
-    let look = Look {
-        keys,
-        rows,
-        place,
-        kind: edge_word(step.edge),
-    };
-    put_piece(alloc, out, history, look, tie_at(steps.len(), place), step)
+    let tie = tie_at(steps.len(), place);
+    put_piece(alloc, out, history, keys, rows, place, tie, steps[place])
 }
 
 // Appends the boxes of all transactions.
@@ -277,9 +296,10 @@ fn put_picture(
 ) -> Result<(), AllocError>
     ensures { OnOk result (out.new.items ≡ out.old.items ++ picture_of history.now title.now steps.now) }
 {
-    let keys = keys_of(alloc, steps)?;
-    let rows = rows_of(alloc, history, keys.as_slice(), steps)?;
-    put_ringed(alloc, out, history, title, keys.as_slice(), rows, steps)
+    let found = keys_of(alloc, steps)?;
+    let keys = found.as_slice();
+    let rows = rows_of(alloc, history, keys, steps)?;
+    put_ringed(alloc, out, history, title, keys, rows, steps)
 }
 
 /// A cycle as an SVG.

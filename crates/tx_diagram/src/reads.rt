@@ -1,11 +1,12 @@
 //! A read that cannot be, drawn.
 ghost use Rattle.std.specs.Prelude.{◌≡◌, ◌++◌, Some, None, OnOk, IfOk};
+ghost use Rattle.tx_acts.specs.Shown.{read_shown};
 ghost use Rattle.tx_diagram.specs.Reads.{read_text, why_text, colour_of, tie_of, tied_text, rows_of, most_rows, box_at, alone_text, pair_text, boxes_text, boxes_of, framed_text, read_picture, tip_text, edge_text, read_drawing};
 
 use crate::boxes::{Look, put_box_of, shown_of};
 use crate::drawing::put_quoted;
-use crate::shown::put_read_shown;
 use std::alloc::{AllocError, Global};
+use tx_acts::put_read_shown;
 use tx_import::History;
 use tx_ring::{Subject, Tie, put_close, put_end_of_box, put_head, put_tie, reach_of};
 use tx_verdict::{Fact, Rule};
@@ -58,6 +59,15 @@ fn tie_of(rule: Rule) -> Tie
     }
 }
 
+// What shows the read.
+fn shown(alloc: Global, history: &History, fact: Fact) -> Result<Vec<u8>, AllocError>
+    ensures { IfOk result (λ text. text.items ≡ read_shown history.now fact) }
+{
+    let mut text = Vec::new(alloc);
+    put_read_shown(alloc, &mut text, history, fact)?;
+    Ok(text)
+}
+
 // Appends the words of what leads from a box to the next one, and the end of the box.
 fn put_tied(
     alloc: Global,
@@ -70,8 +80,7 @@ fn put_tied(
     ensures { OnOk result (out.new.items ≡ out.old.items ++ tied_text history.now fact rows tie) }
 {
     let label = read_text(alloc, history, fact)?;
-    let mut shown = Vec::new(alloc);
-    put_read_shown(alloc, &mut shown, history, fact)?;
+    let shown = shown(alloc, history, fact)?;
     let why = why_of(fact.rule).as_bytes();
     put_tie(out, rows, tie, label.as_slice(), why, shown.as_slice())
 }
@@ -80,7 +89,8 @@ fn put_tied(
 fn rows_of(alloc: Global, history: &History, fact: Fact, txn: u32) -> Result<usize, AllocError>
     ensures { IfOk result (λ rows. rows ≡ rows_of history.now fact txn) }
 {
-    Ok(shown_of(alloc, history, &[fact.key], txn)?.len())
+    let shown = shown_of(alloc, history, &[fact.key], txn)?;
+    Ok(shown.len())
 }
 
 // How many rows each box has.
@@ -90,7 +100,10 @@ fn most_rows(alloc: Global, history: &History, fact: Fact) -> Result<usize, Allo
     let rows = rows_of(alloc, history, fact, fact.txn)?;
     match fact.by {
         None => Ok(rows),
-        Some(other) => Ok(rows_of(alloc, history, fact, other)?.max(rows)),
+        Some(other) => {
+            let others = rows_of(alloc, history, fact, other)?;
+            Ok(others.max(rows))
+        }
     }
 }
 
@@ -146,7 +159,8 @@ fn put_pair(
 {
     let kind = colour_of(fact.rule);
     put_box_at(alloc, out, history, fact, rows, 0, kind, other)?;
-    put_tied(alloc, out, history, fact, rows, tie_of(fact.rule))?;
+    let tie = tie_of(fact.rule);
+    put_tied(alloc, out, history, fact, rows, tie)?;
     put_box_at(alloc, out, history, fact, rows, 1, "last", fact.txn)?;
     put_end_of_box(out)
 }
@@ -186,7 +200,8 @@ fn put_framed(
     ensures { OnOk result (out.new.items ≡ out.old.items ++ framed_text history.now fact rows reach) }
 {
     let title = rule_word(fact.rule).as_bytes();
-    put_head(out, Subject::Read, title, rows, boxes_of(fact.by), reach)?;
+    let count = boxes_of(fact.by);
+    put_head(out, Subject::Read, title, rows, count, reach)?;
     put_boxes(alloc, out, history, fact, rows)?;
     put_close(out)
 }

@@ -1,6 +1,6 @@
 -- The operations of a transaction, in words.
 use Rattle.std.specs.Prelude.{ℕ, ◌+◌, ◌-◌, ◌==◌, ◌&&◌, Bool, true, false, cond, List, [], ◌∷◌, ◌++◌, codes, length, nat_le, nat_lt, take, drop, slice_index_or, slice_range}
-use Rattle.std.specs.List.{filter, flat_map, list_any}
+use Rattle.std.specs.List.{filter, list_any}
 use Rattle.serde_json.specs.Written.{compact_text}
 use Rattle.tx_recording.specs.declared.recording.Span.{Span}
 use Rattle.tx_recording.specs.declared.recording.Act.{Act}
@@ -8,6 +8,7 @@ use Rattle.tx_recording.specs.declared.recording.Act.TheVariants.{Append, Write,
 use Rattle.tx_recording.specs.declared.recording.Op.{Op}
 use Rattle.tx_recording.specs.Recordings.{list_of, transaction_at}
 use Rattle.tx_import.specs.declared.reader.History.{History}
+use Rattle.tx_ring.specs.Markup.{each_of}
 use Rattle.tx_verdict_text.specs.Words.{key_data, value_data}
 
 -- ---- in words
@@ -16,18 +17,27 @@ use Rattle.tx_verdict_text.specs.Words.{key_data, value_data}
 abbrev pub value_text : History → ℕ → List ℕ
 value_text h v = codes " " ++ compact_text (value_data h v)
 
+abbrev pub value_at : History → List ℕ → ℕ → List ℕ
+value_at h vs i = value_text h (slice_index_or vs i 0)
+
+-- values, one behind the other
 abbrev pub values_text : History → List ℕ → List ℕ
-values_text h vs = flat_map (value_text h) vs
+values_text h vs = each_of (value_at h vs) (length vs)
 
 -- what was read, where it is not much
 abbrev pub seen_text : History → List ℕ → List ℕ
-seen_text h [] = codes " nothing"
-seen_text h (v ∷ vs) = values_text h (v ∷ vs)
+seen_text h vs = cond (length vs == 0) (codes " nothing") (values_text h vs)
+
+abbrev pub last_six : List ℕ → List ℕ
+last_six vs = drop (length vs - 6) vs
+
+-- the last values of a read
+abbrev pub last_text : History → List ℕ → List ℕ
+last_text h vs = codes " .." ++ values_text h vs
 
 -- what was read: of more than six values the last six
 abbrev pub found_text : History → List ℕ → List ℕ
-found_text h vs = cond (nat_le (length vs) 6) (seen_text h vs)
-    (codes " .." ++ values_text h (drop (length vs - 6) vs))
+found_text h vs = cond (nat_le (length vs) 6) (seen_text h vs) (last_text h (last_six vs))
 
 -- the values of a read, where they are there
 abbrev pub found_by : History → Span → List ℕ

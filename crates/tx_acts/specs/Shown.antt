@@ -1,19 +1,23 @@
 -- What shows an edge, or a read that cannot be: lines, and their operations.
-use Rattle.std.specs.Prelude.{ℕ, List, [], ◌∷◌, ◌++◌, codes, Option, Some, None}
-use Rattle.std.specs.List.{flat_map}
+use Rattle.std.specs.Prelude.{ℕ, List, [], ◌∷◌, ◌++◌, codes, length, slice_index_or, Option, Some, None}
 use Rattle.tx_recording.specs.declared.recording.Op.{Op}
-use Rattle.tx_recording.specs.Recordings.{transaction_at}
+use Rattle.tx_recording.specs.Recordings.{transaction_at, no_op}
 use Rattle.tx_verdict.specs.declared.verdict.Edge.{Edge}
 use Rattle.tx_verdict.specs.declared.verdict.Edge.TheVariants.{Ww, Wr, Rw, So, Rt}
 use Rattle.tx_verdict.specs.declared.verdict.CycleStep.{CycleStep}
 use Rattle.tx_verdict.specs.declared.verdict.Fact.{Fact}
 use Rattle.tx_import.specs.declared.reader.History.{History}
-use Rattle.tx_diagram.specs.Ops.{op_line, keyed_ops, first_ops, ops_at}
-use Rattle.tx_diagram.specs.Boxes.{line_word, process_text, number_text}
+use Rattle.tx_ring.specs.Markup.{each_of}
+use Rattle.tx_acts.specs.Ops.{op_line, keyed_ops, first_ops, ops_at}
+use Rattle.tx_acts.specs.About.{line_word, process_text, number_text}
 
--- operations behind others
-abbrev pub behind_text : History → Op → List ℕ
-behind_text h o = codes ", " ++ op_line h o
+-- the operation at a place, behind others
+abbrev pub behind_at : History → List Op → ℕ → List ℕ
+behind_at h os i = codes ", " ++ op_line h (slice_index_or os i no_op)
+
+-- operations, one behind the other
+abbrev pub behind_text : History → List Op → List ℕ
+behind_text h os = each_of (behind_at h os) (length os)
 
 -- the first eight operations of a transaction with a key
 abbrev pub ops_with : History → ℕ → ℕ → List Op
@@ -22,7 +26,7 @@ ops_with h t k = first_ops (keyed_ops (k ∷ []) (ops_at h t))
 -- a line, and what it did with the key, where there is one
 abbrev pub did_text : History → ℕ → Option ℕ → List ℕ
 did_text h t None = []
-did_text h t (Some k) = flat_map (behind_text h) (ops_with h t k)
+did_text h t (Some k) = behind_text h (ops_with h t k)
 
 -- what shows an edge of who comes first: what it did with the key, its process, or its end
 abbrev pub first_text : History → Edge → ℕ → Option ℕ → List ℕ
