@@ -1,6 +1,6 @@
-//! What stands around the sections of a page.
+//! What stands around the sections of a page: made by bin/page-text.
 
-/// From its first byte to the sections. The two sums are those of its style and of a picture's.
+/// From its first byte to the sections.
 pub(crate) const PAGE_HEAD: &str = r#"<!doctype html>
 <html lang="en">
 <head>
@@ -32,4 +32,6 @@ transaction and its operations.</p>
 "#;
 
 /// From the sections to its end.
-pub(crate) const PAGE_FOOT: &str = "</body>\n</html>\n";
+pub(crate) const PAGE_FOOT: &str = r#"</body>
+</html>
+"#;
