@@ -5,8 +5,8 @@ ghost use Rattle.tx_acts.specs.Ops.{op_line};
 ghost use Rattle.tx_acts.specs.About.{process_text, number_text};
 ghost use Rattle.tx_acts.specs.Shown.{behind_at, behind_text, ops_with, did_text, first_text, second_text, shown_text, other_text, read_shown};
 
-use crate::about::{put_known_process, put_line, put_number};
 use crate::ops::{few_ops, op_line, ops_at, transaction_at};
+use crate::transaction::{put_known_process, put_line, put_number};
 use std::alloc::{AllocError, Global};
 use tx_import::History;
 use tx_recording::Op;

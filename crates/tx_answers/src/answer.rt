@@ -20,7 +20,9 @@ use crate::sentences::{sentences, wrong_sentence};
 use crate::trace::trace_of;
 use std::alloc::{AllocError, Global};
 use std::io::{BufRead, Write};
-use tx_diagram::{drawing, picture, read_drawing, read_picture, refuted_drawing, refuted_picture};
+use tx_diagram::{
+    cycle_drawing, cycle_picture, read_drawing, read_picture, refuted_drawing, refuted_picture,
+};
 use tx_import::{History, LineFault, Misrecorded, bare_of, find_misrecorded, read_history};
 use tx_judge::judge;
 use tx_text::{Broken, finish, put_fault, send};
@@ -149,8 +151,8 @@ fn cycle_text(
 {
     match form {
         CycleForm::Line | CycleForm::Page => Ok(verdict_line(alloc, history, verdict)?),
-        CycleForm::Graph => Ok(drawing(alloc, history, cycle)?),
-        CycleForm::Picture => Ok(picture(alloc, history, cycle)?),
+        CycleForm::Graph => Ok(cycle_drawing(alloc, history, cycle)?),
+        CycleForm::Picture => Ok(cycle_picture(alloc, history, cycle)?),
     }
 }
 

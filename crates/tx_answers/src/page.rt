@@ -5,7 +5,7 @@ ghost use Rattle.tx_answers.specs.Pages.{pictures_text, section_text, IsSection,
 use crate::frame::{PAGE_FOOT, PAGE_HEAD};
 use crate::sentences::plain_sentences;
 use std::alloc::{AllocError, Global};
-use tx_diagram::{picture, read_picture, refuted_pictures};
+use tx_diagram::{cycle_picture, read_picture, refuted_pictures};
 use tx_import::History;
 use tx_ring::put_text;
 use tx_verdict::{Level, Verdict};
@@ -16,7 +16,7 @@ fn pictures(alloc: Global, history: &History, verdict: &Verdict) -> Result<Vec<u
     ensures { IfOk result (λ text. text.items ≡ pictures_text history.now verdict.now) }
 {
     match verdict {
-        Verdict::No(cycle) => picture(alloc, history, cycle),
+        Verdict::No(cycle) => cycle_picture(alloc, history, cycle),
         Verdict::Refuted(refutation) => refuted_pictures(alloc, history, refutation),
         Verdict::Fact(fact) => read_picture(alloc, history, *fact),
         Verdict::Yes(_) => Ok(Vec::new(alloc)),

@@ -91,7 +91,7 @@ fn put_arrows(
 }
 
 /// A cycle as a graph for Graphviz.
-pub fn drawing(alloc: Global, history: &History, cycle: &Cycle) -> Result<Vec<u8>, AllocError>
+pub fn cycle_drawing(alloc: Global, history: &History, cycle: &Cycle) -> Result<Vec<u8>, AllocError>
     ensures { IfOk result (λ text. text.items ≡ drawing_text history.now cycle.now) }
 {
     let mut out = Vec::new(alloc);

@@ -8,6 +8,6 @@ mod drawing;
 mod picture;
 mod reads;
 
-pub use drawing::{drawing, refuted_drawing};
-pub use picture::{picture, refuted_picture, refuted_pictures};
+pub use drawing::{cycle_drawing, refuted_drawing};
+pub use picture::{cycle_picture, refuted_picture, refuted_pictures};
 pub use reads::{read_drawing, read_picture};

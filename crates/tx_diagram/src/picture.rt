@@ -303,7 +303,7 @@ fn put_picture(
 }
 
 /// A cycle as an SVG.
-pub fn picture(alloc: Global, history: &History, cycle: &Cycle) -> Result<Vec<u8>, AllocError>
+pub fn cycle_picture(alloc: Global, history: &History, cycle: &Cycle) -> Result<Vec<u8>, AllocError>
     ensures { IfOk result (λ text. text.items ≡ picture_text history.now cycle.now) }
 {
     let mut out = Vec::new(alloc);

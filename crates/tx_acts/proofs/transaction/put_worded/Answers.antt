@@ -1,7 +1,7 @@
 use Rattle.std.proofs.Common.{◌++◌, codes}
 use Rattle.std.specs.Prelude.{decimal}
 use Rattle.tx_ring.proofs.Pieces.{after, on_so}
-use Rattle.tx_acts.proofs.about.put_worded.Goals as goal
+use Rattle.tx_acts.proofs.transaction.put_worded.Goals as goal
 
 pub returns : goal.returns
 returns c =

@@ -2,7 +2,7 @@ use Rattle.std.proofs.Common.{◌++◌, codes}
 use Rattle.std.proofs.Common.{◌+◌}
 use Rattle.std.specs.Prelude.{decimal}
 use Rattle.tx_ring.proofs.Pieces.{after, on_so}
-use Rattle.tx_acts.proofs.about.put_line.Goals as goal
+use Rattle.tx_acts.proofs.transaction.put_line.Goals as goal
 
 pub returns : goal.returns
 returns c =

@@ -2,7 +2,7 @@ use Rattle.std.proofs.Common.{length, ap, ◌∙◌}
 use Rattle.tx_acts.specs.About.{said_text}
 use Rattle.tx_recording.specs.Recordings.{transaction_at}
 use Rattle.tx_acts.proofs.Known.{if_so}
-use Rattle.tx_acts.proofs.about.about.Goals as goal
+use Rattle.tx_acts.proofs.transaction.about.Goals as goal
 
 pub returns : goal.returns
 returns c =

@@ -1,7 +1,7 @@
 use Rattle.std.proofs.Common.{◌++◌, ap, ◌∙◌}
 use Rattle.tx_verdict_text.specs.Words.{cycle_word}
 use Rattle.tx_diagram.specs.Pictures.{picture_of}
-use Rattle.tx_diagram.proofs.picture.picture.Goals as goal
+use Rattle.tx_diagram.proofs.picture.cycle_picture.Goals as goal
 
 pub returns : goal.returns
 returns c =

@@ -1,7 +1,7 @@
 use Rattle.std.proofs.Common.{◌++◌, codes}
 use Rattle.tx_acts.specs.About.{outcome_text, process_text, number_text}
 use Rattle.tx_ring.proofs.Pieces.{after, on_so}
-use Rattle.tx_acts.proofs.about.put_ended.Goals as goal
+use Rattle.tx_acts.proofs.transaction.put_ended.Goals as goal
 
 pub returns : goal.returns
 returns c =

@@ -2,7 +2,7 @@ use Rattle.std.proofs.Common.{◌++◌, codes}
 use Rattle.serde_json.specs.Written.{compact_text}
 use Rattle.tx_verdict_text.specs.Words.{process_data}
 use Rattle.tx_ring.proofs.Pieces.{after, on_so}
-use Rattle.tx_acts.proofs.about.put_by.Goals as goal
+use Rattle.tx_acts.proofs.transaction.put_by.Goals as goal
 
 pub returns : goal.returns
 returns c =
