@@ -75,55 +75,42 @@ fn put_rows(
     Ok(())
 }
 
-/// What a box looks like.
-#[derive(Clone, Copy, Debug)]
-pub(crate) struct Look<'a> {
-    /// The keys that matter.
-    pub(crate) keys: &'a [u32],
-    /// How many rows each box of the picture has.
-    pub(crate) rows: usize,
-    /// Where it stands.
-    pub(crate) place: usize,
-    /// Of which kind it is.
-    pub(crate) kind: &'a str,
-}
-
 // Appends a box with these operations.
 fn put_filled(
     alloc: Global,
     out: &mut Vec<u8>,
     history: &History,
-    look: Look<'_>,
+    rows: usize,
+    place: usize,
+    kind: &str,
     txn: u32,
     ops: &[Op],
 ) -> Result<(), AllocError>
     ensures { OnOk result (out.new.items ≡ out.old.items
-        ++ filled_text history.now look.rows look.place look.kind.now txn ops.now) }
+        ++ filled_text history.now rows place kind.now txn ops.now) }
 {
     let name = name(alloc, history, txn)?;
     let about = about(alloc, history, txn, ops.len())?;
-    put_box(
-        out,
-        look.rows,
-        look.place,
-        look.kind,
-        name.as_slice(),
-        about.as_slice(),
-    )?;
+    put_box(out, rows, place, kind, name.as_slice(), about.as_slice())?;
     put_rows(alloc, out, history, ops)
 }
 
-/// Appends the box of a transaction, up to what leads from it.
+/// Appends the box of a transaction at a place, of a kind, up to what leads from it, where each box
+/// has so many rows and these keys matter.
 pub(crate) fn put_box_of(
     alloc: Global,
     out: &mut Vec<u8>,
     history: &History,
-    look: Look<'_>,
+    keys: &[u32],
+    rows: usize,
+    place: usize,
+    kind: &str,
     txn: u32,
 ) -> Result<(), AllocError>
     ensures { OnOk result (out.new.items ≡ out.old.items
-        ++ box_of history.now look.keys.now look.rows look.place look.kind.now txn) }
+        ++ box_of history.now keys.now rows place kind.now txn) }
 {
-    let shown = shown_of(alloc, history, look.keys, txn)?;
-    put_filled(alloc, out, history, look, txn, shown.as_slice())
+    let shown = shown_of(alloc, history, keys, txn)?;
+    let ops = shown.as_slice();
+    put_filled(alloc, out, history, rows, place, kind, txn, ops)
 }

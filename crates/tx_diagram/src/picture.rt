@@ -7,7 +7,7 @@ ghost use Rattle.tx_diagram.specs.Pictures.{told_text, sense_text, reach_at, mos
 ghost use Rattle.tx_acts.specs.Shown.{shown_text};
 ghost use Rattle.tx_ring.specs.Rings.{end_text};
 
-use crate::boxes::{Look, put_box_of, shown_of};
+use crate::boxes::{put_box_of, shown_of};
 use crate::drawing::{label, order_title};
 use std::alloc::{AllocError, Global};
 use tx_acts::put_shown;
@@ -191,13 +191,8 @@ fn put_piece(
         ++ piece_text history.now keys.now rows place tie step) }
 {
     let kind = edge_word(step.edge);
-    let look = Look {
-        keys,
-        rows,
-        place,
-        kind,
-    };
-    put_box_of(alloc, out, history, look, step.from)?;
+    let txn = step.from;
+    put_box_of(alloc, out, history, keys, rows, place, kind, txn)?;
     put_tied(alloc, out, history, rows, tie, step)
 }
 

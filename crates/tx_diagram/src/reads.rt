@@ -3,7 +3,7 @@ ghost use Rattle.std.specs.Prelude.{◌≡◌, ◌++◌, Some, None, OnOk, IfOk}
 ghost use Rattle.tx_acts.specs.Shown.{read_shown};
 ghost use Rattle.tx_diagram.specs.Reads.{read_text, why_text, colour_of, tie_of, tied_text, rows_of, most_rows, box_at, alone_text, pair_text, boxes_text, boxes_of, framed_text, read_picture, tip_text, edge_text, read_drawing};
 
-use crate::boxes::{Look, put_box_of, shown_of};
+use crate::boxes::{put_box_of, shown_of};
 use crate::drawing::put_quoted;
 use std::alloc::{AllocError, Global};
 use tx_acts::put_read_shown;
@@ -122,13 +122,7 @@ fn put_box_at(
         ++ box_at history.now fact rows place kind.now txn) }
 {
     let keys = &[fact.key];
-    let look = Look {
-        keys,
-        rows,
-        place,
-        kind,
-    };
-    put_box_of(alloc, out, history, look, txn)
+    put_box_of(alloc, out, history, keys, rows, place, kind, txn)
 }
 
 // Appends the reader's box.

@@ -5,8 +5,7 @@ use Rattle.tx_diagram.proofs.boxes.put_box_of.Goals as goal
 
 pub returns : goal.returns
 returns c =
-    let look = c.args.look in
     on_so c.put_filled.result c.put_filled.ensures (λ e.
     e ∙ ap (λ os. c.args.out.now.items
-    ++ filled_text c.args.history.now look.rows look.place look.kind.now c.args.txn os)
-    (c.as_slice.ensures.value ∙ c.in_ok-shown.ensures))
+    ++ filled_text c.args.history.now c.args.rows c.args.place c.args.kind.now c.args.txn os)
+    (c.as_slice-ops.ensures.value ∙ c.in_ok-shown.ensures))

@@ -10,12 +10,14 @@ returns c =
     let h = c.args.history.now in
     let t = c.args.txn in
     let old = c.args.out.now.items in
-    let look = c.args.look in
+    let rows = c.args.rows in
+    let place = c.args.place in
+    let kind = c.args.kind.now in
     let os = c.args.ops.now in
     on_so c.put_rows.result c.put_rows.ensures (λ e.
-    after old (box_text look.rows look.place look.kind.now (id_text h t) (about_text h t (length os))) (rows_text h os)
+    after old (box_text rows place kind (id_text h t) (about_text h t (length os))) (rows_text h os)
     (c.in_ok-put_box.ensures
-    ∙ ap (λ n. old ++ box_text look.rows look.place look.kind.now n c.as_slice-2.result.now)
+    ∙ ap (λ n. old ++ box_text rows place kind n c.as_slice-2.result.now)
     (c.as_slice.ensures.value ∙ c.in_ok-name.ensures)
-    ∙ ap (λ a. old ++ box_text look.rows look.place look.kind.now (id_text h t) a)
+    ∙ ap (λ a. old ++ box_text rows place kind (id_text h t) a)
     (c.as_slice-2.ensures.value ∙ c.in_ok-about.ensures)) e)
