@@ -9,9 +9,9 @@
 //! each step), `traces.rows`, `histories.rows` (judged as `txkv import` does, and the trace of each
 //! yes is checked), `ordered.rows` (the same with `--sessions --strict`), `serial.rows` (with
 //! `--level serializable` as well) and `all.rows` (with `--all` in its place), each with what it
-//! writes. The picture of a history (`NAME.history`, drawn as `txkv import --svg` does) is shown as
-//! `NAME.history.svg`, a page of each no of one (as `--sessions --strict --all --html` writes it) as
-//! `NAME.history.html`.
+//! writes. The picture of a history (`NAME.history`, drawn as `txkv import --svg` does) is shown
+//! as `NAME.history.svg`, a page of each no of one (as `--sessions --strict --all --html` writes
+//! it) as `NAME.history.html`.
 #![tactic(auto)]
 
 mod kind;

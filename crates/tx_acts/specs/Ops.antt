@@ -41,7 +41,8 @@ found_text h vs = cond (nat_le (length vs) 6) (seen_text h vs) (last_text h (las
 
 -- the values of a read, where they are there
 abbrev pub found_by : History → Span → List ℕ
-found_by h span = cond (nat_le (span.first + span.count) (length h.recording.elements.items)) (list_of h.recording span) []
+found_by h span = cond (nat_le (span.first + span.count) (length h.recording.elements.items))
+    (list_of h.recording span) []
 
 -- what was done with a key, and a colon
 abbrev pub did_words : History → List ℕ → ℕ → List ℕ

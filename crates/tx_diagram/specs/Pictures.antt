@@ -1,5 +1,5 @@
--- The picture of a cycle: a box each transaction, and an arrow each edge, with what it says and what
--- shows it.
+-- The picture of a cycle: a box each transaction, and an arrow each edge, with what it says and
+-- what shows it.
 use Rattle.std.specs.Prelude.{ℕ, ◌-◌, ◌==◌, cond, max, List, [], ◌∷◌, ◌++◌, zero, suc, codes, length, Option, Some, None}
 use Rattle.std.specs.List.{flat_map}
 use Rattle.tx_verdict.specs.declared.verdict.Edge.{Edge}

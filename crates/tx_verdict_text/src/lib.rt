@@ -1,5 +1,5 @@
-//! The line of a verdict, and the words of which it is made: transactions by their ids, keys, values
-//! and processes by their names, as a history has them.
+//! The line of a verdict, and the words of which it is made: transactions by their ids, keys,
+//! values and processes by their names, as a history has them.
 #![tactic(auto)]
 
 mod line;

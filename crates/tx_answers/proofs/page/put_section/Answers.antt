@@ -14,9 +14,12 @@ returns c =
     let pictures = c.args.pictures.now in
     let end = codes "</section>\n" in
     if_ok c.extend_from_slice-5.result _ _ _ c.extend_from_slice-5.ensures.items (λ e.
-    after c.args.out.now.items start (line ++ (between ++ (why ++ (above ++ (pictures ++ end))))) c.in_ok-extend_from_slice.ensures.items
-    (after c.extend_from_slice.new.self.items line (between ++ (why ++ (above ++ (pictures ++ end)))) c.in_ok-put_text.ensures
-    (after c.put_text.new.out.items between (why ++ (above ++ (pictures ++ end))) c.in_ok-extend_from_slice-2.ensures.items
+    after c.args.out.now.items start (line ++ (between ++ (why ++ (above ++ (pictures ++ end)))))
+    c.in_ok-extend_from_slice.ensures.items
+    (after c.extend_from_slice.new.self.items line (between ++ (why ++ (above ++ (pictures ++ end))))
+    c.in_ok-put_text.ensures
+    (after c.put_text.new.out.items between (why ++ (above ++ (pictures ++ end)))
+    c.in_ok-extend_from_slice-2.ensures.items
     (after c.extend_from_slice-2.new.self.items why (above ++ (pictures ++ end)) c.in_ok-put_text-2.ensures
     (after c.put_text-2.new.out.items above (pictures ++ end) c.in_ok-extend_from_slice-3.ensures.items
     (after c.extend_from_slice-3.new.self.items pictures end c.in_ok-extend_from_slice-4.ensures.items e))))))

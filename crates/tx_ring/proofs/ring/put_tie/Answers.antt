@@ -17,11 +17,15 @@ returns c =
     let tip = tip_text c.args.tie in
     let end = codes "\"/></g></g>\n" in
     on_so c.put-5.result c.put-5.ensures (λ e.
-    after c.args.out.now.items start (shown ++ (titled ++ (label ++ (sense ++ (path ++ (high ++ (tip ++ end))))))) c.in_ok-put.ensures
-    (after c.put.new.out.items shown (titled ++ (label ++ (sense ++ (path ++ (high ++ (tip ++ end)))))) c.in_ok-put_text.ensures
-    (after c.put_text.new.out.items titled (label ++ (sense ++ (path ++ (high ++ (tip ++ end))))) c.in_ok-put-2.ensures
+    after c.args.out.now.items start (shown ++ (titled ++ (label ++ (sense ++ (path ++ (high ++
+    (tip ++ end))))))) c.in_ok-put.ensures
+    (after c.put.new.out.items shown (titled ++ (label ++ (sense ++ (path ++ (high ++ (tip ++ end))))))
+    c.in_ok-put_text.ensures
+    (after c.put_text.new.out.items titled (label ++ (sense ++ (path ++ (high ++ (tip ++ end)))))
+    c.in_ok-put-2.ensures
     (after c.put-2.new.out.items label (sense ++ (path ++ (high ++ (tip ++ end)))) c.in_ok-put_word.ensures
     (after c.put_word.new.out.items sense (path ++ (high ++ (tip ++ end))) c.in_ok-put_word-2.ensures
     (after c.put_word-2.new.out.items path (high ++ (tip ++ end)) c.in_ok-put-3.ensures
     (after c.put-3.new.out.items high (tip ++ end) c.in_ok-put_high.ensures
-    (after c.put_high.new.out.items tip end (c.in_ok-put-4.ensures ∙ ap (λ w. c.put_high.new.out.items ++ w) c.tip_of.ensures) e))))))))
+    (after c.put_high.new.out.items tip end (c.in_ok-put-4.ensures ∙ ap
+    (λ w. c.put_high.new.out.items ++ w) c.tip_of.ensures) e))))))))
