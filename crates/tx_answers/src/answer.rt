@@ -16,7 +16,7 @@ ghost use Rattle.tx_answers.specs.Answers.{IsOne, IsSaidTo, IsSaid, IsHeard, lin
 
 use crate::all::judged_to_end;
 use crate::page::{framed, section};
-use crate::sentences::{sentences, wrong_sentence};
+use crate::sentences::{SIGN, sentences, wrong_sentence};
 use crate::trace::trace_of;
 use std::alloc::{AllocError, Global};
 use std::io::{BufRead, Write};
@@ -265,7 +265,7 @@ fn judged_once(alloc: Global, options: ImportOptions, history: &History) -> Resu
 {
     let verdict = judge(alloc, &history.recording, options.question, options.budget)?;
     let text = answer_text(alloc, options, history, &verdict)?;
-    let why = sentences(alloc, history, options.question.level, &verdict)?;
+    let why = sentences(alloc, history, options.question.level, SIGN, &verdict)?;
     let end = end_of(&verdict);
     Ok(Answer { text, end, why })
 }

@@ -3,7 +3,7 @@ ghost use Rattle.std.specs.Prelude.{◌≡◌, true, OnOk, ◌++◌, IfOk};
 ghost use Rattle.tx_answers.specs.Pages.{pictures_text, section_text, IsSection, framed_text};
 
 use crate::frame::{PAGE_FOOT, PAGE_HEAD};
-use crate::sentences::plain_sentences;
+use crate::sentences::sentences;
 use std::alloc::{AllocError, Global};
 use tx_diagram::{cycle_picture, read_picture, refuted_pictures};
 use tx_import::History;
@@ -68,7 +68,7 @@ pub(crate) fn section(
     ensures { IfOk result (λ text. IsSection history.now verdict.now text.items) }
 {
     let line = verdict_line(alloc, history, verdict)?;
-    let why = plain_sentences(alloc, history, level, verdict)?;
+    let why = sentences(alloc, history, level, "", verdict)?;
     let pictures = pictures(alloc, history, verdict)?;
     let made = section_of(alloc, line.as_slice(), why.as_slice(), pictures.as_slice())?;
     Ok(made)

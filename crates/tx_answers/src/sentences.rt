@@ -4,10 +4,11 @@ use tx_acts::{put_read_shown, put_shown};
 use tx_import::{History, Misrecorded};
 use tx_recording::Outcome;
 use tx_text::put_digits;
-use tx_verdict::{
-    Cycle, CycleStep, Edge, Fact, Hint, Lemma, Level, Order, Refutation, Rule, Verdict,
-};
+use tx_verdict::{CycleStep, Edge, Fact, Hint, Lemma, Level, Order, Refutation, Rule, Verdict};
 use tx_verdict_text::{put_id, put_key, put_value};
+
+/// What a line on standard error begins with.
+pub(crate) const SIGN: &str = "txkv: ";
 
 // A text that names transactions, keys and values of a history.
 #[derive(Drop)]
@@ -89,13 +90,6 @@ impl<'a> Sentence<'a> {
         self.say("  ")?;
         put_read_shown(self.alloc, &mut self.text, self.history, fact)?;
         self.say("\n")
-    }
-
-    fn cycle(&mut self, cycle: &Cycle) -> Result<(), AllocError> {
-        for step in cycle.steps.as_slice() {
-            self.step(*step)?;
-        }
-        Ok(())
     }
 
     fn steps(&mut self, steps: &[CycleStep]) -> Result<(), AllocError> {
@@ -250,7 +244,7 @@ impl<'a> Sentence<'a> {
     fn verdict(&mut self, verdict: &Verdict) -> Result<(), AllocError> {
         match verdict {
             Verdict::Yes(_) => Ok(()),
-            Verdict::No(cycle) => self.cycle(cycle),
+            Verdict::No(cycle) => self.steps(cycle.steps.as_slice()),
             Verdict::Refuted(refutation) => self.refutation(refutation),
             Verdict::Fact(fact) => {
                 self.fact(*fact)?;
@@ -347,31 +341,20 @@ pub(crate) fn wrong_sentence(
     history: &History,
     wrong: Misrecorded,
 ) -> Result<Vec<u8>, AllocError> {
-    let mut sentence = no_sentence(alloc, history, Level::Snapshot, "txkv: ");
+    let mut sentence = no_sentence(alloc, history, Level::Snapshot, SIGN);
     sentence.wrong(wrong)?;
     Ok(sentence.text)
 }
 
-/// The sentences of a verdict at a level, each a line; none of a yes.
+/// The sentences of a verdict at a level, each a line behind a sign; none of a yes.
 pub(crate) fn sentences(
     alloc: Global,
     history: &History,
     level: Level,
+    sign: &'static str,
     verdict: &Verdict,
 ) -> Result<Vec<u8>, AllocError> {
-    let mut sentence = no_sentence(alloc, history, level, "txkv: ");
-    sentence.verdict(verdict)?;
-    Ok(sentence.text)
-}
-
-/// The same, as they stand on a page.
-pub(crate) fn plain_sentences(
-    alloc: Global,
-    history: &History,
-    level: Level,
-    verdict: &Verdict,
-) -> Result<Vec<u8>, AllocError> {
-    let mut sentence = no_sentence(alloc, history, level, "");
+    let mut sentence = no_sentence(alloc, history, level, sign);
     sentence.verdict(verdict)?;
     Ok(sentence.text)
 }
