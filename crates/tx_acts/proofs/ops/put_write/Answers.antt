@@ -1,4 +1,4 @@
-use Rattle.std.proofs.Common.{◌++◌, codes}
+use Rattle.std.proofs.Common.{codes}
 use Rattle.tx_acts.specs.Ops.{did_words, value_text}
 use Rattle.tx_ring.proofs.Pieces.{after, on_so}
 use Rattle.tx_acts.proofs.ops.put_write.Goals as goal

@@ -1,5 +1,5 @@
 use Rattle.std.proofs.Common.{◌++◌, codes, ap, ◌∙◌}
-use Rattle.tx_acts.specs.About.{process_text, number_text}
+use Rattle.tx_acts.specs.About.{number_text}
 use Rattle.tx_ring.proofs.Pieces.{on_so}
 use Rattle.tx_acts.proofs.shown.put_end_of.Goals as goal
 

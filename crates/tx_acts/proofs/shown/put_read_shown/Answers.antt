@@ -1,4 +1,4 @@
-use Rattle.std.proofs.Common.{◌++◌, codes}
+use Rattle.std.proofs.Common.{◌++◌}
 use Rattle.std.proofs.Common.{Some}
 use Rattle.tx_acts.specs.About.{line_word}
 use Rattle.tx_acts.specs.Shown.{did_text, other_text}

@@ -1,4 +1,4 @@
-use Rattle.std.proofs.Common.{◌++◌, codes}
+use Rattle.std.proofs.Common.{codes}
 use Rattle.serde_json.specs.Written.{compact_text}
 use Rattle.tx_verdict_text.specs.Words.{process_data}
 use Rattle.tx_ring.proofs.Pieces.{after, on_so}

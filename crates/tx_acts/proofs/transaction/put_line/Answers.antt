@@ -1,4 +1,4 @@
-use Rattle.std.proofs.Common.{◌++◌, codes}
+use Rattle.std.proofs.Common.{codes}
 use Rattle.std.proofs.Common.{◌+◌}
 use Rattle.std.specs.Prelude.{decimal}
 use Rattle.tx_ring.proofs.Pieces.{after, on_so}

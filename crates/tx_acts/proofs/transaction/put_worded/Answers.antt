@@ -1,4 +1,3 @@
-use Rattle.std.proofs.Common.{◌++◌, codes}
 use Rattle.std.specs.Prelude.{decimal}
 use Rattle.tx_ring.proofs.Pieces.{after, on_so}
 use Rattle.tx_acts.proofs.transaction.put_worded.Goals as goal

@@ -1,6 +1,6 @@
 use Rattle.std.proofs.Common.{◌++◌, ap, ◌∙◌}
 use Rattle.tx_ring.specs.Rings.{reach_of}
-use Rattle.tx_diagram.specs.Reads.{read_text, why_text, most_rows, framed_text}
+use Rattle.tx_diagram.specs.Reads.{read_text, most_rows, framed_text}
 use Rattle.tx_diagram.proofs.reads.read_picture.Goals as goal
 
 pub returns : goal.returns
