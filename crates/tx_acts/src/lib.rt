@@ -2,10 +2,10 @@
 //! cycle or a read that cannot be.
 #![tactic(auto)]
 
+mod evidence;
 mod ops;
-mod shown;
 mod transaction;
 
+pub use evidence::{put_read_shown, put_shown};
 pub use ops::{op_line, ops_at, shown_ops};
-pub use shown::{put_read_shown, put_shown};
 pub use transaction::about;

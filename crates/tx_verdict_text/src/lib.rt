@@ -3,7 +3,7 @@
 #![tactic(auto)]
 
 mod line;
-mod searched;
+mod refutation;
 mod words;
 
 pub use line::{put_known_value, verdict_line};

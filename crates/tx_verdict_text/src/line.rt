@@ -6,7 +6,7 @@ ghost use Rattle.serde_json.specs.Written.{compact_text};
 ghost use Rattle.tx_text.specs.Texts.{line_text, members_text};
 ghost use Rattle.tx_verdict_text.specs.Words.{step_data, steps_data, settled_data, refuted_items, key_data, known_key, known_value, known_id, fact_members, yes_members, answer_words, cycle_word as word_of_cycle, edge_word as word_of_edge, rule_word as word_of_rule, verdict_text};
 
-use crate::searched::put_searched;
+use crate::refutation::put_searched;
 use crate::words::{cycle_word, edge_word, put_id, put_key, put_value, rule_word};
 use std::alloc::{AllocError, Global};
 use tx_import::History;
