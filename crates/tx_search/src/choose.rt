@@ -1,14 +1,28 @@
-//! Which pair is put in order next: the first that overlaps in the order of the nodes.
+//! Which pair is put in order next: of those that overlap in the order of the nodes one that took
+//! part in what was learned last, else the first.
 
 use crate::solver::Solver;
 use std::alloc::{AllocError, Global};
 use tx_web::{Loose, commit_of, start_of};
 
-/// Pairs that overlapped when they were looked for, the first ones last: the place where, and the
-/// places of the chains.
+/// Pairs of chains that overlapped when they were looked for, or were learned of since: those to be
+/// chosen first stand last.
 #[derive(Drop)]
 pub(crate) struct Choices {
-    pub(crate) pairs: Vec<(u32, u32, u32)>,
+    pub(crate) pairs: Vec<Choice>,
+}
+
+/// A pair of chains: how long nothing has been learned of it, the place where it overlapped, and
+/// the places of the chains.
+pub(crate) type Choice = (u32, u32, u32, u32);
+
+impl Choices {
+    /// Adds the pair of a literal of which something was learned just now.
+    pub(crate) fn add_learned(&mut self, pair: (u32, u32)) -> Result<(), AllocError> {
+        let (before, behind) = pair;
+        self.pairs.push((0, 0, before, behind))?;
+        Ok(())
+    }
 }
 
 // How far the chains of a key reach that were looked at.
@@ -59,8 +73,10 @@ impl Solver<'_> {
         before: u32,
         behind: u32,
     ) -> Result<(), AllocError> {
-        if self.is_free(self.pairs.literal(before, behind)) {
-            choices.pairs.push((at, before, behind))?;
+        let literal = self.pairs.literal(before, behind);
+        if self.is_free(literal) {
+            let age = self.age(literal);
+            choices.pairs.push((age, at, before, behind))?;
         }
         Ok(())
     }
@@ -150,9 +166,11 @@ impl Solver<'_> {
         Ok(())
     }
 
-    // The literal of a pair that overlaps and of which nothing is said, as the order has it.
+    // The literal of a pair that overlaps and of which nothing is said: the one that was said last,
+    // else as the order has it.
     fn literal_of(&self, before: u32, behind: u32) -> Option<u32> {
-        if !self.is_free(self.pairs.literal(before, behind)) {
+        let any = self.pairs.literal(before, behind);
+        if !self.is_free(any) {
             return None;
         }
         let (one, other) = if self.end(before) > self.end(behind) {
@@ -161,7 +179,7 @@ impl Solver<'_> {
             (before, behind)
         };
         if self.overlap(one, other) {
-            Some(self.pairs.literal(one, other))
+            Some(self.kept(any).unwrap_or(self.pairs.literal(one, other)))
         } else {
             None
         }
@@ -170,7 +188,7 @@ impl Solver<'_> {
     // The first of the pairs that were found that overlaps.
     fn next_choice(&self, choices: &mut Choices) -> Option<u32> {
         for _ in 0..choices.pairs.len().saturating_add(1) {
-            let (_, before, behind) = choices.pairs.pop()?;
+            let (_, _, before, behind) = choices.pairs.pop()?;
             if let Some(literal) = self.literal_of(before, behind) {
                 return Some(literal);
             }

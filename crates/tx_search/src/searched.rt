@@ -38,11 +38,23 @@ struct Budget {
 }
 
 impl Solver<'_> {
+    // Adds the pairs of literals that were learned of to those that are chosen first.
+    fn add_choices(&self, choices: &mut Choices, literals: &[u32]) -> Result<(), AllocError> {
+        for i in 0..literals.len() {
+            let literal = literals[literals.len() - 1 - i];
+            if let Some(pair) = self.pairs.ends(literal) {
+                choices.add_learned(pair)?;
+            }
+        }
+        Ok(())
+    }
+
     // Learns from clashes until there is none; the empty clause, if that was learned.
     fn settle(
         &mut self,
         alloc: Global,
         first: Option<Clash>,
+        choices: &mut Choices,
         budget: &mut Budget,
     ) -> Result<Option<End>, AllocError> {
         let mut met = first;
@@ -59,6 +71,7 @@ impl Solver<'_> {
             }
             budget.left -= 1;
             self.back_to(back);
+            self.add_choices(choices, learned.literals.as_slice())?;
             let clause = self.add(learned)?;
             let from = self.said.len();
             met = self.say(alloc, literal, Some(clause))?;
@@ -84,7 +97,7 @@ impl Solver<'_> {
                 return Ok(End::Ordered);
             };
             let clash = self.choose(alloc, literal)?;
-            if let Some(end) = self.settle(alloc, clash, budget)? {
+            if let Some(end) = self.settle(alloc, clash, &mut choices, budget)? {
                 return Ok(end);
             }
         }

@@ -52,6 +52,10 @@ pub(crate) struct Solver<'a> {
     // by pair: where it stands among what is said, from 1 on
     pub(crate) places: Vec<u32>,
     pub(crate) said: Vec<Said>,
+    // by pair: the literal of it that was said last, and how many clauses there were when one was
+    // learned that has it
+    pub(crate) kept: Vec<Option<u32>>,
+    pub(crate) learned_at: Vec<u32>,
     // how much was said when each literal was chosen
     pub(crate) limits: Vec<usize>,
     pub(crate) clauses: Vec<Learned>,
@@ -75,6 +79,8 @@ impl<'a> Solver<'a> {
             web,
             loose,
             places: vec![in alloc; 0u32; count]?,
+            kept: vec![in alloc; None; count]?,
+            learned_at: vec![in alloc; 0u32; count]?,
             first: vec![in alloc; None; count.saturating_mul(2)]?,
             pairs,
             net,
@@ -97,6 +103,21 @@ impl<'a> Solver<'a> {
     /// Whether nothing is said of the pair of a literal.
     pub(crate) fn is_free(&self, literal: u32) -> bool {
         self.said_of(literal).is_none()
+    }
+
+    /// The literal that was said last of the pair of a literal.
+    pub(crate) fn kept(&self, literal: u32) -> Option<u32> {
+        let kept = self.kept.get(literal as usize / 2)?;
+        *kept
+    }
+
+    /// How many clauses were learned since one that has the pair of a literal.
+    pub(crate) fn age(&self, literal: u32) -> u32 {
+        let count = number(self.clauses.len());
+        match self.learned_at.get(literal as usize / 2) {
+            Some(at) => count.saturating_sub(*at),
+            None => count,
+        }
     }
 
     // Whether the opposite of a literal is said.
@@ -167,7 +188,9 @@ impl<'a> Solver<'a> {
             lines: self.net.len(),
         })?;
         let place = number(self.said.len());
-        put_at(self.places.as_mut_slice(), literal as usize / 2, place);
+        let pair = literal as usize / 2;
+        put_at(self.places.as_mut_slice(), pair, place);
+        put_at(self.kept.as_mut_slice(), pair, Some(literal));
         self.add_lines(alloc, literal)
     }
 
@@ -301,7 +324,10 @@ impl<'a> Solver<'a> {
     pub(crate) fn add(&mut self, learned: Learned) -> Result<u32, AllocError> {
         let clause = number(self.clauses.len());
         for i in 0..learned.literals.len() {
-            self.add_entry(learned.literals[i], clause)?;
+            let literal = learned.literals[i];
+            self.add_entry(literal, clause)?;
+            let at = self.learned_at.as_mut_slice();
+            put_at(at, literal as usize / 2, clause.saturating_add(1));
         }
         self.clauses.push(learned)?;
         Ok(clause)

@@ -118,10 +118,76 @@ enum Mark {
     Readers,
 }
 
-// Which nodes lead to what of the chains of a block: so many words for each node.
+// An edge, by the places of its nodes in an order.
+#[derive(Clone, Copy)]
+struct Step {
+    from: u32,
+    to: u32,
+}
+
+// By node, its place in an order.
+fn places_of(alloc: Global, nodes: u32, order: &[u32]) -> Result<Vec<u32>, AllocError> {
+    let mut places = vec![in alloc; 0u32; nodes as usize]?;
+    for i in 0..order.len() {
+        put_at(places.as_mut_slice(), order[i] as usize, number(i));
+    }
+    Ok(places)
+}
+
+// The place of a node.
+fn place_of(places: &[u32], node: u32) -> u32 {
+    match places.get(node as usize) {
+        Some(place) => *place,
+        None => 0,
+    }
+}
+
+// Adds the edges of a node.
+fn add_steps(
+    steps: &mut Vec<Step>,
+    web: &Web,
+    by_node: &Lists,
+    places: &[u32],
+    node: u32,
+) -> Result<(), AllocError> {
+    let from = place_of(places, node);
+    let mut at = by_node.first(node as usize);
+    for _ in 0..web.links.len() {
+        let Some(place) = at else {
+            return Ok(());
+        };
+        if let Some(link) = web.links.get(place as usize) {
+            let to = place_of(places, link.to);
+            steps.push(Step { from, to })?;
+        }
+        at = by_node.next(place);
+    }
+    Ok(())
+}
+
+// The edges of all nodes, those of the last one first.
+fn steps_of(
+    alloc: Global,
+    web: &Web,
+    by_node: &Lists,
+    order: &[u32],
+    places: &[u32],
+) -> Result<Vec<Step>, AllocError> {
+    let mut steps = Vec::new(alloc);
+    for i in 0..order.len() {
+        let node = order[order.len() - 1 - i];
+        add_steps(&mut steps, web, by_node, places, node)?;
+    }
+    Ok(steps)
+}
+
+// Which nodes lead to what of the chains of a block: so many words for each node, in an order of
+// the nodes.
 #[derive(Drop)]
 struct Marks {
     words: Vec<u64>,
+    // by node: its place in the order
+    places: Vec<u32>,
 }
 
 // The place of a mark of the chain at a place of its block.
@@ -139,10 +205,18 @@ fn bit_of(place: usize, mark: Mark) -> usize
 
 impl Marks {
     // Nothing is marked.
-    fn new(alloc: Global, nodes: u32) -> Result<Marks, AllocError> {
+    fn new(alloc: Global, places: Vec<u32>) -> Result<Marks, AllocError> {
+        let words = places.len().saturating_mul(WORDS);
         Ok(Marks {
-            words: vec![in alloc; 0u64; nodes as usize * WORDS]?,
+            words: vec![in alloc; 0u64; words]?,
+            places,
         })
+    }
+
+    // The place of the word of a node that has this bit.
+    fn word_at(&self, node: u32, bit: usize) -> usize {
+        let first = place_of(self.places.as_slice(), node) as usize * WORDS;
+        first.saturating_add(bit / 64)
     }
 
     // Forgets all marks.
@@ -158,7 +232,7 @@ impl Marks {
             return false;
         }
         let bit = bit_of(place, mark);
-        match self.words.get(node as usize * WORDS + bit / 64) {
+        match self.words.get(self.word_at(node, bit)) {
             Some(word) => (*word >> (bit % 64)) & 1 == 1,
             None => false,
         }
@@ -170,13 +244,13 @@ impl Marks {
             return;
         }
         let bit = bit_of(place, mark);
-        let at = node as usize * WORDS + bit / 64;
+        let at = self.word_at(node, bit);
         if at < self.words.len() {
             self.words[at] = self.words[at] | (1u64 << (bit % 64));
         }
     }
 
-    // Marks a node with all that another one leads to.
+    // Marks the node at a place with all that the one at another place leads to.
     fn merge(&mut self, into: u32, from: u32) {
         let into = into as usize * WORDS;
         let from = from as usize * WORDS;
@@ -189,24 +263,10 @@ impl Marks {
         }
     }
 
-    // Marks a node with all that its edges lead to.
-    fn merge_all(&mut self, web: &Web, by_node: &Lists, node: u32) {
-        let mut at = by_node.first(node as usize);
-        for _ in 0..web.links.len() {
-            let Some(place) = at else {
-                return;
-            };
-            if let Some(link) = web.links.get(place as usize) {
-                self.merge(node, link.to);
-            }
-            at = by_node.next(place);
-        }
-    }
-
-    // Marks each node with all that it leads to.
-    fn sweep(&mut self, web: &Web, by_node: &Lists, order: &[u32]) {
-        for i in 0..order.len() {
-            self.merge_all(web, by_node, order[order.len() - 1 - i]);
+    // Marks each node with all that it leads to, by the edges of all, those of the last one first.
+    fn sweep(&mut self, steps: &[Step]) {
+        for i in 0..steps.len() {
+            self.merge(steps[i].from, steps[i].to);
         }
     }
 
@@ -331,13 +391,15 @@ impl Finds<'_> {
             return Ok(false);
         }
         let upto = number(self.found.len());
-        let mut marks = Marks::new(alloc, self.web.nodes)?;
+        let places = places_of(alloc, self.web.nodes, order)?;
+        let steps = steps_of(alloc, &self.web, by_node, order, places.as_slice())?;
+        let mut marks = Marks::new(alloc, places)?;
         let blocks = self.loose.len() / CHAINS + 1;
         for block in 0..blocks {
             let first = block.saturating_mul(CHAINS);
             marks.clear();
             marks.mark_chains(&self.web, self.loose, first);
-            marks.sweep(&self.web, by_node, order);
+            marks.sweep(steps.as_slice());
             self.add_block(&marks, groups, first, upto)?;
         }
         Ok(number(self.found.len()) > upto)
