@@ -1,0 +1,55 @@
+-- What becomes of a transaction that is open, and what is told of its commit.
+use Rattle.std.specs.Prelude.{◌≡◌, ◌⊎◌, ℕ, List, Option, Some, None, Result, Ok, Err}
+use Rattle.tx_types.specs.declared.key.Key.{Key}
+use Rattle.tx_core.specs.declared.event.Outcome.{Outcome}
+use Rattle.tx_core.specs.declared.event.Outcome.TheVariants.{Committed, ReadOnly, Unknown}
+use Rattle.tx_core.specs.declared.event.Event.TheVariants.{Stopped}
+use Rattle.tx_journal.specs.Known.{Known}
+use Rattle.tx_transaction.specs.declared.state.Terms.{Terms}
+use Rattle.tx_transaction.specs.Buffers.{Entries}
+use Rattle.tx_transaction.specs.Sessions.{finish_of}
+use Rattle.tx_client.specs.Calls.{Seated, seated, Records}
+use Rattle.tx_update.specs.declared.stops.Stop.{Stop}
+use Rattle.tx_update.specs.Updates.{IsWithoutEffect, MayHaveDeclared, EndedWith, Wrote}
+use Rattle.tx_embed.specs.declared.open_transaction.NotCommitted.{NotCommitted}
+use Rattle.tx_embed.specs.declared.open_transaction.NotCommitted.TheVariants as not
+
+-- this is entered now, and nothing else is new
+abbrev pub Enters : Entries → Seated → Seated → Type 0
+Enters entered old new = new ≡ seated (record old.state { buffer = entered }) old.seat
+
+-- What is told of an outcome: a commit, that nothing was to be written where nothing stopped it, or
+-- that it is not known; else why it was without effect.
+abbrev pub TellsOf : Outcome → Result (Unit {0}) Stop → Result (Option ℕ) NotCommitted → Type 0
+TellsOf (Committed at) done r = r ≡ Ok (Some at)
+TellsOf (Unknown why) done r = r ≡ Err not.Unknown
+TellsOf ReadOnly (Ok x) r = r ≡ Ok None
+TellsOf o done r = (stop : Stop) × (r ≡ Err (not.Stopped stop))
+
+-- its fate is not known
+abbrev pub IsNotKnown : Outcome → Type 0
+IsNotKnown (Unknown why) = Unit {0}
+IsNotKnown o = ⊥
+
+module _ (bounds : List Key) (terms : Terms) where
+  -- what was entered is what stands declared of the transaction, in what this session has seen
+  abbrev pub WroteBy : Seated → Seated → Type 0
+  WroteBy old session = Wrote bounds terms old.state.start old.state.buffer old.seat session.seat
+
+  -- it ended so, and what was entered is what stands declared of it
+  abbrev pub EndedAllWritten : Seated → Outcome → Known → Type 0
+  EndedAllWritten old o new = (ends : EndedWith bounds old.seat old.state.start o new)
+      × WroteBy old ends.session
+
+  -- What is told of a commit: that it is committed, or that nothing was to be written, of what was
+  -- entered, all of it; that it is without effect; or that its fate is not known: `finish` answers
+  -- that, or nothing, and then its session is stopped.
+  abbrev pub Commits : Seated → Result (Option ℕ) NotCommitted → Known → Type 0
+  Commits old (Ok (Some at)) new = EndedAllWritten old (Committed at) new
+  Commits old (Ok None) new = EndedAllWritten old ReadOnly new
+  Commits old (Err (not.Stopped stop)) new = (o : Outcome) × EndedWith bounds old.seat old.state.start o new
+      × IsWithoutEffect o
+  Commits old (Err not.Unknown) new =
+      ((o : Outcome) × EndedWith bounds old.seat old.state.start o new × IsNotKnown o)
+      ⊎ ((session : Seated) × MayHaveDeclared old session × (finish_of session.state ≡ None)
+      × Records bounds session.seat (Stopped session.seat.seat) new)

@@ -1,0 +1,190 @@
+-- `txkv_store_call` lends the place behind the pointer for one call, at the name that its ghost
+-- data has, hands the request on, and has the place back.
+use Rattle.std.proofs.Common.{◌≡◌, ℕ, List, [], ◌∷◌, ◌++◌, refl, sym, ap, ◌∙◌, subst, w32, MutBor, length}
+use mir.Syntax.{dnil, impl, tnil, named}
+use mir.Raw.{raw as bare}
+use mir.Val.{Val, vptr}
+use base.Fraction.{full_share}
+use base.Logic.{SProp, ent, sep, emp, id⊢, ex_i, fst∗, never}
+use base.Fml.{ftrue, flft, flent}
+use prog.Wp.{WpFn}
+use types.Logic.{sem}
+use types.SemTy.{Body}
+use types.Kit.{‵, raw, ◌⊛◌, some, later, ◌$◌, ◌∵◌, !, qed, by, move, keep, drop, split, split3, join, fsplit, fjoin, pick, suffices, use0, use1, use2, use3, await, rewrite}
+use types.Tokens.{lft_new, lft_end}
+use types.Run.{of_opd, addr, stop, no_more, and_then, returns, enter}
+use types.ByLocal.{alloc_all, pass_all, free_all, look_at, get, through, sets, lands_as}
+use contract.Monad.{fact, fact_i}
+use contract.Running.{tables}
+use denote.Exit.{yes, no}
+use denote.Signature.{types_at, plain}
+use denote.Builtin.{u8, u32, SliceRefOf}
+use denote.Plain.{uint_Lawful}
+use denote.RawPtr.{Ptr, RawPtr, ptr_val, null_ptr, in_a_block}
+use denote.Ref.{MutRef}
+use denote.Lend.{lends_ref, ref_back}
+use denote.Memory.{mem, part_at}
+use denote.Slice.{slice_val, shr_slice_vals, ShrSlice}
+use denote.Laws.{Is, shows}
+use denote.Steps.{nothing, heard, peeks}
+use denote.Triple.Clauses.{Lasts, lasts}
+use denote.Triple.Spec.{triple_of}
+use denote.Triple.Call.{calls_at}
+use denote.Triple.Table.{framed}
+use denote.Triple.Walked.{Stays, stay_dropped, walk_of, Goes-dropped}
+use Rattle.std.proofs.alloc.Calls.{Al, handle_tells}
+use Rattle.std.proofs.raw_atomic.Walks.{proved_at, leaves}
+use Rattle.std_heap.specs.contracts.Global as heap
+use Rattle.std_heap.proofs.Global.TheLaws as heap_laws
+use Rattle.std_heap.specs.contracts.GlobalAllocator.TheImpl.{ghosts, dict}
+use Rattle.tx_embed_c.specs.Handles.{owns_store, named as at_name, Held}
+use Rattle.tx_embed.specs.Answers.{code_of}
+use Rattle.tx_embed.specs.Calls.{Called}
+use Rattle.tx_embed.specs.contracts.store.EmbeddedStore as store
+use Rattle.std.specs.contracts.marker.Brand as brand
+use Rattle.std.proofs.marker.Brand.TheLaws as brand_laws
+use contract.BorrowLft.{◌⊑◌, ⊑_static}
+use denote.Param.{arg, layout}
+use denote.Param.Laws.{arg_laws}
+use denote.RattleType.{RattleType, owns}
+use Rattle.tx_embed_c.specs.contracts.calls.call as g
+use Rattle.tx_embed_c.proofs.calls.call.Met.{met}
+use Rattle.tx_embed_c.specs.contracts.face.txkv_store_call as f
+use Rattle.tx_embed_c.proofs.face.txkv_store_call.Statement.{statement}
+use Rattle.tx_embed_c.proofs.face.txkv_store_call.Code as code
+
+abbrev stayed : Stays f.ended.signature.params f.ended.kept
+stayed = (
+  stay_dropped (plain (λ _. heap.the_row)) yes,
+  (
+    stay_dropped (plain (λ _. RawPtr)) yes,
+    (stay_dropped (SliceRefOf (0 ∷ []) tt (plain (λ _. u8)) (λ _. tt)) yes, tt),
+  ),
+)
+
+pub txkv_store_call_spec : {M : Type 1} → statement M
+txkv_store_call_spec {M} 𝓤 𝓛 𝓜 𝓡 wired =
+    let H = 𝓛.H in let 𝓣 = tables 𝓤 H 𝓜 𝓡 𝓡.env in let c = f.clauses 𝓛 𝓜.mem 𝓡.returns in
+    let J = arg (bare (layout brand.the_row)) no brand.the_row in
+    let LJ = arg_laws (bare (layout brand.the_row)) no brand.the_row brand_laws.the_row_laws refl in
+    let jd = impl [] tnil dnil in
+    let Z : Al = record {
+      row = heap.the_row;
+      laws = heap_laws.the_row_laws;
+      g = ghosts;
+      d = dict;
+      drops = impl []
+          tnil dnil;
+    } in
+    proved_at 𝓛 f.ended stayed c 𝓜 𝓡 (
+      Goes-dropped 𝓛 1 (plain (λ _. heap.the_row)) yes (λ κs x w. refl),
+      (
+        Goes-dropped 𝓛 1 (plain (λ _. RawPtr)) yes (λ κs x w. refl),
+        (
+          Goes-dropped 𝓛 1 (SliceRefOf (0 ∷
+              []) tt (plain (λ _. u8)) (λ _. tt)) yes (λ κs x w. refl),
+          tt,
+        ),
+      ),
+    )
+    f.Key.name code.function (code.unfolded 𝓤 H 𝓜 𝓡 wired) (λ z are.
+    let κs = z.0.0 in let qs = z.0.1 in let a = z.0.3.0 in let p : Ptr = z.0.3.1.0 in let request = z.0.3.1.1.0 in
+    let h₀ : Held = z.1 in let m = at_name h₀.name in let R : RattleType = store.the_row brand.the_row m in
+    let G = triple_of 𝓛 (g.signature J m jd) (g.spec J m jd 𝓛 𝓜.mem 𝓡.returns) in let En = g.ended J m jd in
+    let known = met 𝓤 𝓛 𝓜 𝓡 (code.calls-tx_embed_c::calls::call 𝓡.env wired) J LJ m jd (record {}) in
+    let Post : Val → SProp 𝓤 = (walk_of 𝓛 f.ended stayed c).post z in
+    let Run : List Val → SProp 𝓤 = λ ws. WpFn 𝓤 H 𝓣.C 𝓣.Λ code.function ws Post in
+    qed 𝓛 (((‵ (flft κs.0 qs.0) ⊛ ‵ ftrue) ⊛ ‵ (owns (types_at f.ended.signature.params κs) z.0.3 z.0.4)) ∷
+    ‵ (owns_store a p h₀) ∷ []) ∵
+    split ! $ split ! $ move ! (2 ∷ []) $ fsplit ! $
+    handle_tells Z ! a z.0.4.0 (λ hv eh fa. drop ! $ fsplit ! $ drop ! $ fsplit ! $ move ! (1 ∷ []) $ drop ! $
+    move ! (3 ∷ []) $
+    -- [the handle; request; its token; nothing]
+    in_a_block {𝓤 = 𝓤} {𝓛 = 𝓛} ! p (λ q. owns_store a q h₀) (fst∗ 𝓤 (never 𝓤) (sem 𝓛 (ghosts.dealloc_token a (bare
+    (layout R)) null_ptr))) (λ b o e. fsplit ! $
+    -- [the store in its block; the right to free the block; request; its token; nothing]
+    rewrite ! 2 (λ (vs : List Val). ‵ ((ShrSlice (named 0) κs.0 u8).own_val request vs)) are.1.1.0.0.0 refl $
+    let us = hv ∷ vptr b o ∷ slice_val request.ref_ptr (length request.now) ∷ [] in
+    suffices ! (Run us) (subst (λ (ws : List Val). ent 𝓤 (Run us) (Run ws)) (sym (λ i. eh i ++ ((are.1.0 ∙ ap (λ (q :
+    Ptr). ptr_val q ∷ []) e) i ++ (are.1.1.0.0.0 i ++ [])))) (id⊢ 𝓤 (Run us))) $
+    enter ! 𝓣.C 𝓣.Λ code.function us Post $ alloc_all ! (λ l. pass_all ! refl (
+      fa,
+      (
+        (tt, tt),
+        (
+          (
+            tt,
+            (
+              tt,
+              (record { fits = are.1.1.0.0.1.0 }, tt),
+            ),
+          ),
+          tt,
+        ),
+      ),
+    ) $
+    sets ! (of_opd ! (get ! refl)) refl (tt, tt) $ sets ! (addr ! (through ! refl (stop !))) refl (tt, tt) $
+    lft_new ! tt (λ α. let κ = α ∷ [] in move ! (1 ∷ []) $
+    use1 𝓛 (later (some (λ (γ : ℕ). ‵ ((MutRef (named 0) κ R).own_val (record {
+      ref_ptr = (
+        b,
+        o,
+      );
+      ghost_name = γ;
+      now = h₀.state;
+    }) (vptr b o ∷ [])) ⊛ ‵ (flent κ (Body (mem R) b o γ)))))
+    (lends_ref 𝓛 R (named 0) κ h₀.state b o) $ await ! tt $ pick ! (λ γ. split ! $
+    -- [the loan; the way back; its token; the right to free the block; request; its token; nothing]
+    let x : MutBor R.Denot = record { ref_ptr = (b, o); ghost_name = γ; now = h₀.state } in
+    let y : G.Ghost = (
+      (
+        (κ, (κs.0, ([], tt))),
+        (full_share, (qs.0, (full_share, tt))),
+        (⊑_static κ, tt),
+        (
+          x,
+          (
+            request,
+            tt,
+          ),
+        ),
+        (vptr b o ∷ [], (shr_slice_vals request, tt)),
+      ),
+      tt,
+    ) in
+    nothing ! $ move ! (5 ∷ 0 ∷ []) $ fjoin ! $ move ! (1 ∷ 0 ∷ []) $ fjoin ! $
+    nothing ! $ use0 𝓛 (‵ (flft [] full_share)) (𝓛.lfts.lft-nil full_share) $ join ! $ move ! (5 ∷ 0 ∷ []) $ join ! $
+    move ! (3 ∷ 0 ∷ []) $ join ! $ join ! $
+    nothing ! $ use0 𝓛 (raw (fact 𝓤 ([] ⊑ J.lives))) (fact_i 𝓤 ([] ⊑ J.lives) (emp 𝓤) (⊑_static [])) $ join ! $
+    move ! (1 ∷ 0 ∷ []) $ use2 𝓛 (raw (G.pre y)) (id⊢ 𝓤 _) $
+    calls_at ! (framed 𝓤 H 𝓜 𝓣) G known y (and_then ! (get ! refl) (and_then ! (get ! refl) (no_more !))) (λ v.
+    use1 𝓛 (later (some (λ (r : ℕ). ((‵ (flft κ full_share) ⊛ ‵ (flft κs.0 qs.0) ⊛ ‵ (flft [] full_share) ⊛
+    ‵ ftrue) ⊛ ‵ (u32.own_val r (v ∷ []))) ⊛
+    some (λ (ws : Lasts En y.0.0 y.0.3). ‵ (lasts En y.0.0 y.0.3 ws) ⊛
+    (raw (fact 𝓤 (Called h₀.name.bounds request.now h₀.state ws.0)) ⊛
+    raw (fact 𝓤 (r ≡ code_of ws.0.said))))))) (id⊢ 𝓤 (G.post y v)) $
+    await ! tt $ pick ! (λ r. split ! $ split ! $ split3 ! $ move ! (2 ∷ []) $ split ! $
+    -- [that of the name; nothing; the loan's token; its token; the result; what holds; the way
+    -- back; the right to free the block; nothing]
+    move ! (2 ∷ []) $ lft_end ! tt $ move ! (5 ∷ []) $ pick ! (λ ws. split ! $ move ! (1 ∷ []) $ split ! $
+    heard ! _ (λ called. heard ! _ (λ coded.
+    fsplit ! $ fsplit ! $
+    -- [the loan's last value; its borrow; nothing; the lifetime is over; that of the name;
+    -- nothing; request's token; the result; the way back; the right to free]
+    move ! (3 ∷ 8 ∷ 0 ∷ []) $ use3 𝓛 (later (‵ (part_at R full_share ws.0 b o))) (ref_back 𝓛 R κ γ ws.0 b o) $
+    await ! tt $
+    move ! (6 ∷ []) $ peeks ! u32 (Is u32) (shows 𝓛 u32) r (v ∷
+    []) (λ is. lands_as ! refl refl ((uint_Lawful 𝓛 w32).typed r (v ∷ []) is).0 $
+    returns ! (look_at ! 0 refl) $ free_all ! refl $ keep ! (1 ∷ 7 ∷ 0 ∷ 6 ∷ []) $
+    -- [the store in its block; the right to free it; the result; request's token]
+    fjoin ! $ let h₁ : Held = record { name = h₀.name; state = ws.0 } in
+    rewrite ! 0 (λ (q : Ptr). ‵ (owns_store a q h₁)) (sym e) refl $
+    let Holds : Held → Type 0 = λ h. (h.name ≡ h₀.name) × Called h₀.name.bounds request.now h₀.state h.state
+    × (r ≡ code_of h.state.said) in
+    use0 𝓛 (raw (fact 𝓤 (Holds h₁))) (fact_i 𝓤 (Holds h₁) (emp 𝓤) (refl, called, coded)) $
+    move ! (1 ∷ 0 ∷ []) $ join ! $
+    use1 𝓛 (some (λ (h : Held). ‵ (owns_store a p h) ⊛
+    raw (fact 𝓤 (Holds h)))) (ex_i 𝓤 (λ (h : Held). sep 𝓤 (sem 𝓛 (owns_store a p h)) (fact 𝓤 (Holds h))) h₁) $
+    nothing ! $ nothing ! $ fjoin ! $ nothing ! $ fjoin ! $ nothing ! $ fjoin ! $
+    nothing ! $ move ! (4 ∷ 0 ∷ []) $ join ! $ keep ! (0 ∷ 1 ∷ 3 ∷ 2 ∷ []) $
+    by ! (leaves 𝓛 f.ended stayed c z v r (tt, (tt, (tt, tt))) (tt, (tt, (tt, tt))))))))))))))))
