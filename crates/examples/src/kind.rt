@@ -42,6 +42,8 @@ pub(crate) enum Kind {
     AllOfHistory,
     /// A history whose answer is a picture.
     DrawnHistory,
+    /// A history whose answer is a page of each no.
+    PagedHistory,
 }
 
 const NO_ORDER: Orders = Orders {
@@ -113,6 +115,11 @@ const AS_PICTURE: ImportOptions = ImportOptions {
     ..ONE_LINE
 };
 
+const ON_PAGE: ImportOptions = ImportOptions {
+    form: CycleForm::Page,
+    ..TO_THE_END
+};
+
 // Judges a history. How it ended, unless it broke off; that the verdict is open, its line says.
 fn judges(
     alloc: Global,
@@ -180,6 +187,7 @@ impl Kind {
             Kind::TracedSerial => judges_traced(alloc, SERIAL, text, written),
             Kind::AllOfHistory => judges(alloc, TO_THE_END, text, written),
             Kind::DrawnHistory => judges(alloc, AS_PICTURE, text, written),
+            Kind::PagedHistory => judges(alloc, ON_PAGE, text, written),
         }
     }
 }

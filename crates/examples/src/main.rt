@@ -9,8 +9,9 @@
 //! each step), `traces.rows`, `histories.rows` (judged as `txkv import` does, and the trace of each
 //! yes is checked), `ordered.rows` (the same with `--sessions --strict`), `serial.rows` (with
 //! `--level serializable` as well) and `all.rows` (with `--all` in its place), each with what it
-//! writes. The picture of a history (`NAME.history`, drawn as
-//! `txkv import --svg` does) is shown as `NAME.history.svg`.
+//! writes. The picture of a history (`NAME.history`, drawn as `txkv import --svg` does) is shown
+//! as `NAME.history.svg`, a page of each no of one (as `--sessions --strict --all --html` writes
+//! it) as `NAME.history.html`.
 #![tactic(auto)]
 
 mod kind;
@@ -79,6 +80,8 @@ const SHOWN: &[(&[&str], PictureForm, bool, &str)] = &[
 
 const HISTORIES: [&str; 2] = ["markup_in_keys.history", "read_committed.history"];
 
+const PAGES: [&str; 1] = ["many_anomalies.history"];
+
 const RUNS: [&str; 1] = ["transfers.run"];
 
 const TRACES: [&str; 3] = [
@@ -144,13 +147,13 @@ fn is_explained(rt: &HostRuntime, name: &str, options: PictureOptions<'_>) -> Re
     Ok(ended.is_ok() && written.as_slice() == shown.as_slice())
 }
 
-// Whether the cycle of a history is drawn as the file beside it shows it: `NAME.svg`.
-fn is_drawn(rt: &HostRuntime, name: &str) -> Result<bool> {
+// Whether what is written of a history in a form is what the file of that end beside it shows.
+fn is_drawn(rt: &HostRuntime, name: &str, form: &str, kind: Kind) -> Result<bool> {
     let history = fs::read(rt, name)?;
-    let path = format!(in rt.alloc(); "{name}.svg")?;
+    let path = format!(in rt.alloc(); "{name}.{form}")?;
     let shown = fs::read(rt, path)?;
     let mut written = Vec::new(rt.alloc());
-    let ended = Kind::DrawnHistory.run(rt, history.as_slice(), &mut written);
+    let ended = kind.run(rt, history.as_slice(), &mut written);
     Ok(ended == Some(End::No) && written.as_slice() == shown.as_slice())
 }
 
@@ -221,7 +224,12 @@ fn main(rt: HostRuntime) -> Result<()> {
         tell_explained(&rt, names, *form, *machine, how)?;
     }
     for name in HISTORIES {
-        println!(rt; "{name}, drawn: {}", verdict(is_drawn(&rt, name)?))?;
+        let drawn = is_drawn(&rt, name, "svg", Kind::DrawnHistory)?;
+        println!(rt; "{name}, drawn: {}", verdict(drawn))?;
+    }
+    for name in PAGES {
+        let paged = is_drawn(&rt, name, "html", Kind::PagedHistory)?;
+        println!(rt; "{name}, on a page: {}", verdict(paged))?;
     }
     for name in RUNS {
         let shown = run_is_shown::<FlatCells, _>(&rt, name)?

@@ -1,5 +1,3 @@
--- Words are text, and a line is written part by part.
-pub mod Lines
 -- What is known of a result, and of the bytes that were read, where they are known.
 pub mod Known
 -- A list that is made piece by piece.

@@ -19,7 +19,8 @@ use Rattle.tx_types.specs.declared.fault.Cause.TheVariants.{Form}
 use Rattle.tx_answers.specs.declared.answer.ImportOptions.{ImportOptions}
 use Rattle.tx_answers.specs.declared.answer.ImportEnd.{ImportEnd}
 use Rattle.tx_answers.specs.declared.answer.ImportEnd.TheVariants.{Faulted}
-use Rattle.tx_answers.specs.Texts.{end_of, IsTextOf}
+use Rattle.tx_answers.specs.Pages.{framed_text}
+use Rattle.tx_answers.specs.Texts.{end_of, is_page, IsTextOf}
 use Rattle.tx_answers.specs.All.{IsAllOf}
 
 -- a verdict, and what is written of it
@@ -32,8 +33,10 @@ abbrev pub IsSaidTo : Bool → ImportOptions → History → List ℕ → Import
 IsSaidTo true options h text end = IsAllOf options h text end
 IsSaidTo false options h text end = IsOne options h text end
 
+-- the same; on a page, where that is asked for
 abbrev pub IsSaid : ImportOptions → History → List ℕ → ImportEnd → Type 0
-IsSaid options h text end = IsSaidTo options.all options h text end
+IsSaid options h text end = (inner : List ℕ) × IsSaidTo options.all options h inner end
+    × (text ≡ framed_text (is_page options.form) inner)
 
 -- the line that tells what a recorder got wrong
 abbrev pub line_of : Misrecorded → ℕ

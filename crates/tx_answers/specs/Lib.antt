@@ -1,8 +1,5 @@
-pub mod Words
-pub mod Drawings
 pub mod Traces
-pub mod Pictures
-pub mod Reads
+pub mod Pages
 pub mod Texts
 pub mod All
 pub mod Answers

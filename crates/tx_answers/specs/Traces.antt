@@ -23,7 +23,7 @@ use Rattle.tx_import.specs.declared.name.Name.TheVariants.{Text, Number}
 use Rattle.tx_import.specs.declared.name.Scalar.{Scalar}
 use Rattle.tx_import.specs.declared.name.Scalar.TheVariants as scalar
 use Rattle.tx_import.specs.declared.reader.History.{History}
-use Rattle.tx_answers.specs.Words.{truth_word}
+use Rattle.tx_verdict_text.specs.Words.{truth_word}
 use Rattle.tx_answers.specs.declared.moment.Moment.{Moment}
 use Rattle.tx_answers.specs.declared.moment.Moment.TheVariants.{Start, Commit}
 

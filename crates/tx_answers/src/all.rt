@@ -9,7 +9,7 @@ ghost use Rattle.tx_answers.specs.Texts.{end_of as end_of_verdict};
 ghost use Rattle.tx_answers.specs.All.{IsOneOf, IsAllOf};
 
 use crate::answer::{Answer, ImportEnd, ImportOptions, answer_text, end_of};
-use crate::sentences::sentences;
+use crate::sentences::{SIGN, sentences};
 use std::alloc::{AllocError, Global};
 use tx_import::History;
 use tx_judge::judge;
@@ -79,7 +79,7 @@ fn put_one(
     ensures end { OnOk result (answer.new.end ≡ cond is_first (end_of_verdict verdict.now) answer.old.end) }
 {
     let text = one_text(alloc, options, history, is_first, verdict)?;
-    let why = sentences(alloc, history, options.question.level, verdict)?;
+    let why = sentences(alloc, history, options.question.level, SIGN, verdict)?;
     answer.text.extend_from_slice(text.as_slice())?;
     answer.why.extend_from_slice(why.as_slice())?;
     answer.end = end_with(is_first, answer.end, verdict);

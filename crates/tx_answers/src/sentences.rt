@@ -1,24 +1,34 @@
 //! Why a verdict is one, in sentences for who reads them: one an edge of a cycle.
-use crate::words::{put_id, put_key, put_value};
 use std::alloc::{AllocError, Global};
+use tx_acts::{put_read_shown, put_shown};
 use tx_import::{History, Misrecorded};
 use tx_recording::Outcome;
 use tx_text::put_digits;
-use tx_verdict::{
-    Cycle, CycleStep, Edge, Fact, Hint, Lemma, Level, Order, Refutation, Rule, Verdict,
-};
+use tx_verdict::{CycleStep, Edge, Fact, Hint, Lemma, Level, Order, Refutation, Rule, Verdict};
+use tx_verdict_text::{put_id, put_key, put_value};
+
+/// What a line on standard error begins with.
+pub(crate) const SIGN: &str = "txkv: ";
 
 // A text that names transactions, keys and values of a history.
 #[derive(Drop)]
 struct Sentence<'a> {
+    alloc: Global,
     history: &'a History,
     level: Level,
+    // What each line begins with.
+    sign: &'static str,
     text: Vec<u8>,
 }
 
 impl<'a> Sentence<'a> {
     fn say(&mut self, words: &str) -> Result<(), AllocError> {
         self.text.extend_from_slice(words.as_bytes())
+    }
+
+    // Begins a line.
+    fn begin(&mut self) -> Result<(), AllocError> {
+        self.say(self.sign)
     }
 
     fn txn(&mut self, txn: u32) -> Result<(), AllocError> {
@@ -50,7 +60,7 @@ impl<'a> Sentence<'a> {
             Edge::So => (step.to, step.from, " came", " in its process after "),
             Edge::Rt => (step.to, step.from, " began", " after the end of "),
         };
-        self.say("txkv: ")?;
+        self.begin()?;
         self.txn(first)?;
         self.say(between)?;
         if let Some(key) = step.key {
@@ -62,14 +72,24 @@ impl<'a> Sentence<'a> {
             (Edge::Rw, Level::Snapshot) => ": it started before that committed\n",
             (Edge::Rw, Level::Serializable) => ": it had committed when that started\n",
             _ => ": it started when that had committed\n",
-        })
+        })?;
+        self.shown(step)
     }
 
-    fn cycle(&mut self, cycle: &Cycle) -> Result<(), AllocError> {
-        for step in cycle.steps.as_slice() {
-            self.step(*step)?;
-        }
-        Ok(())
+    // The lines that show an edge of a cycle, and what they did.
+    fn shown(&mut self, step: CycleStep) -> Result<(), AllocError> {
+        self.begin()?;
+        self.say("  ")?;
+        put_shown(self.alloc, &mut self.text, self.history, step)?;
+        self.say("\n")
+    }
+
+    // The lines that show a read, and what they did.
+    fn read_shown(&mut self, fact: Fact) -> Result<(), AllocError> {
+        self.begin()?;
+        self.say("  ")?;
+        put_read_shown(self.alloc, &mut self.text, self.history, fact)?;
+        self.say("\n")
     }
 
     fn steps(&mut self, steps: &[CycleStep]) -> Result<(), AllocError> {
@@ -91,7 +111,7 @@ impl<'a> Sentence<'a> {
     // Orders that are settled, each with the round of the opposite one.
     fn facts(&mut self, refutation: &Refutation) -> Result<(), AllocError> {
         for fact in refutation.facts.as_slice() {
-            self.say("txkv: ")?;
+            self.begin()?;
             self.order(fact.order)?;
             self.say(", as the other way round would need this circle:\n")?;
             self.steps(fact.round.as_slice())?;
@@ -102,7 +122,8 @@ impl<'a> Sentence<'a> {
     // What is left of clauses.
     fn hints(&mut self, hints: &[Hint]) -> Result<(), AllocError> {
         for hint in hints {
-            self.say("txkv: of choice ")?;
+            self.begin()?;
+            self.say("of choice ")?;
             put_digits(&mut self.text, u64::from(hint.lemma) + 1)?;
             self.say(" it is left that ")?;
             self.order(hint.order)?;
@@ -124,7 +145,8 @@ impl<'a> Sentence<'a> {
 
     // A clause, with what it follows from.
     fn lemma(&mut self, number: usize, lemma: &Lemma) -> Result<(), AllocError> {
-        self.say("txkv: choice ")?;
+        self.begin()?;
+        self.say("choice ")?;
         put_digits(&mut self.text, number as u64)?;
         self.say(": ")?;
         self.clause(lemma.clause.as_slice())?;
@@ -141,7 +163,8 @@ impl<'a> Sentence<'a> {
             self.lemma(i + 1, &lemmas[i])?;
         }
         self.hints(refutation.hints.as_slice())?;
-        self.say("txkv: so this circle is left:\n")?;
+        self.begin()?;
+        self.say("so this circle is left:\n")?;
         self.steps(refutation.last.as_slice())
     }
 
@@ -176,7 +199,7 @@ impl<'a> Sentence<'a> {
 
     // What one transaction read that cannot be.
     fn fact(&mut self, fact: Fact) -> Result<(), AllocError> {
-        self.say("txkv: ")?;
+        self.begin()?;
         self.txn(fact.txn)?;
         match fact.rule {
             Rule::Internal => {
@@ -205,24 +228,33 @@ impl<'a> Sentence<'a> {
 
     // The keys of which the order is not known.
     fn open(&mut self, keys: &[u32]) -> Result<(), AllocError> {
-        self.say("txkv: nobody read in which order the last values came into ")?;
+        self.begin()?;
+        self.say("nobody read in which order the last values came into ")?;
         let mut between = "";
         'keys: for key in keys {
             self.say(between)?;
             self.key(*key)?;
             between = ", ";
         }
-        self.say("\ntxkv: no order was found of them: --budget N looks longer\n")
+        self.say("\n")?;
+        self.begin()?;
+        self.say("no order was found of them: --budget N looks longer\n")
     }
 
     fn verdict(&mut self, verdict: &Verdict) -> Result<(), AllocError> {
         match verdict {
             Verdict::Yes(_) => Ok(()),
-            Verdict::No(cycle) => self.cycle(cycle),
+            Verdict::No(cycle) => self.steps(cycle.steps.as_slice()),
             Verdict::Refuted(refutation) => self.refutation(refutation),
-            Verdict::Fact(fact) => self.fact(*fact),
+            Verdict::Fact(fact) => {
+                self.fact(*fact)?;
+                self.read_shown(*fact)
+            }
             Verdict::Open(keys) => self.open(keys.as_slice()),
-            Verdict::Unknown => self.say("txkv: neither an explanation nor a circle was found\n"),
+            Verdict::Unknown => {
+                self.begin()?;
+                self.say("neither an explanation nor a circle was found\n")
+            }
             Verdict::Twice(first, second, value) => self.twice(*first, *second, *value),
         }
     }
@@ -243,7 +275,7 @@ impl<'a> Sentence<'a> {
 
     // A value that two gave to its key.
     fn twice(&mut self, first: u32, second: u32, value: u32) -> Result<(), AllocError> {
-        self.say("txkv: ")?;
+        self.begin()?;
         self.line(second)?;
         self.say(" gives ")?;
         self.value(Some(value))?;
@@ -261,7 +293,7 @@ impl<'a> Sentence<'a> {
 
     // What a recorder got wrong.
     fn wrong(&mut self, wrong: Misrecorded) -> Result<(), AllocError> {
-        self.say("txkv: ")?;
+        self.begin()?;
         match wrong {
             Misrecorded::Empty => self.say("there is no transaction\n"),
             Misrecorded::EndsEarly(txn) => {
@@ -287,33 +319,42 @@ impl<'a> Sentence<'a> {
     }
 }
 
+// No sentence yet, of which each line is to begin with this sign.
+fn no_sentence<'a>(
+    alloc: Global,
+    history: &'a History,
+    level: Level,
+    sign: &'static str,
+) -> Sentence<'a> {
+    Sentence {
+        alloc,
+        history,
+        level,
+        sign,
+        text: Vec::new(alloc),
+    }
+}
+
 /// The sentence that says what a recorder got wrong.
 pub(crate) fn wrong_sentence(
     alloc: Global,
     history: &History,
     wrong: Misrecorded,
 ) -> Result<Vec<u8>, AllocError> {
-    let mut sentence = Sentence {
-        history,
-        level: Level::Snapshot,
-        text: Vec::new(alloc),
-    };
+    let mut sentence = no_sentence(alloc, history, Level::Snapshot, SIGN);
     sentence.wrong(wrong)?;
     Ok(sentence.text)
 }
 
-/// The sentences of a verdict at a level, each a line; none of a yes.
+/// The sentences of a verdict at a level, each a line behind a sign; none of a yes.
 pub(crate) fn sentences(
     alloc: Global,
     history: &History,
     level: Level,
+    sign: &'static str,
     verdict: &Verdict,
 ) -> Result<Vec<u8>, AllocError> {
-    let mut sentence = Sentence {
-        history,
-        level,
-        text: Vec::new(alloc),
-    };
+    let mut sentence = no_sentence(alloc, history, level, sign);
     sentence.verdict(verdict)?;
     Ok(sentence.text)
 }

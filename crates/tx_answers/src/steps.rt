@@ -5,13 +5,13 @@ ghost use Rattle.tx_recording.specs.Recordings.{IsRecording, transaction_at, ops
 ghost use Rattle.tx_answers.specs.Traces.{key_bytes, name_bytes, scalar_bytes, value_bytes, put_by as put_of_act, is_put as is_put_op, is_put_into, found_by, read_at, reads_of, read_step, change_of, change_at, changes_of as changes_by, declared_by, start_steps, commit_steps, moment_steps};
 
 use crate::moment::Moment;
-use crate::words::{put_signed, truth_word};
 use std::alloc::Global;
 use tx_import::{History, Name, Scalar};
 use tx_machine::Step;
 use tx_recording::{Act, Op, Outcome, Recording, Span};
 use tx_text::{Broken, put_digits};
 use tx_types::{Change, Changes, Items, Key, Mutation, Ts, Value};
+use tx_verdict_text::{put_signed, truth_word};
 
 // The key of a text.
 fn new_key(alloc: Global, text: &[u8]) -> Result<Key, Broken>

@@ -245,6 +245,8 @@ Examples:
       A no as a drawing
   txkv import --all read_committed.history
       Every no, a line each
+  txkv import --all --html read_committed.history > page.html
+      Every no on a page: its line, why, and its picture
   txkv import --budget 1000000 read_committed.history
       The same as the first, with more patience"#;
 

@@ -34,6 +34,8 @@ pub struct ImportOptions {
     pub dot: bool,
     /// Whether a cycle is drawn, as an SVG.
     pub svg: bool,
+    /// Whether each verdict stands on a page, with its pictures.
+    pub html: bool,
     /// Whether it goes on after a no.
     pub all: bool,
     /// How many cycles a search for an order may meet.
@@ -69,17 +71,27 @@ pub(crate) fn import_options(asked: &ArgMatches<'_>) -> ImportOptions {
         trace: asked.get_flag("trace"),
         dot: asked.get_flag("dot"),
         svg: asked.get_flag("svg"),
+        html: asked.get_flag("html"),
         all: asked.get_flag("all"),
         budget: asked.get_one::<u64>("budget").unwrap_or(BUDGET),
     }
 }
 
-// A drawing of a no.
+// A drawing of a no. Several are a page.
 fn drawing_of_no<'a>(alloc: Global) -> Result<Arg<'a>, AllocError> {
-    let help = "Draws a no, an SVG, in place of its line";
+    let help = "Draws a no, an SVG, in place of its line; for every no take --all --html";
     flag(alloc, "svg", help)
         .conflicts_with("dot")?
         .conflicts_with("all")
+}
+
+// A page of what is answered.
+fn page<'a>(alloc: Global) -> Result<Arg<'a>, AllocError> {
+    let help = "Writes a page: the line, its sentences, and a picture of a no";
+    flag(alloc, "html", help)
+        .conflicts_with("dot")?
+        .conflicts_with("svg")?
+        .conflicts_with("trace")
 }
 
 // How long a search may go on.
@@ -107,6 +119,7 @@ pub(crate) fn import<'a>(alloc: Global) -> Result<Command<'a>, AllocError> {
         .arg(flag(alloc, "trace", trace))?
         .arg(flag(alloc, "dot", dot))?;
     let command = with(command, drawing_of_no(alloc))?;
+    let command = with(command, page(alloc))?;
     command
         .arg(flag(alloc, "all", all))?
         .arg(budget(alloc))?

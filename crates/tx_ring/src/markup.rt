@@ -35,8 +35,8 @@ fn put_marked(out: &mut Vec<u8>, text: &[u8], at: usize) -> Result<(), AllocErro
     put_named(out, text[at])
 }
 
-/// Appends text.
-pub(crate) fn put_text(out: &mut Vec<u8>, text: &[u8]) -> Result<(), AllocError>
+/// Appends text, so that it ends no element.
+pub fn put_text(out: &mut Vec<u8>, text: &[u8]) -> Result<(), AllocError>
     ensures { OnOk result (out.new.items ≡ out.old.items ++ marked text.now) }
 {
     for i in 0..text.len() {

@@ -1,6 +1,6 @@
 //! The parts of a picture of boxes, from its head to its end.
-ghost use Rattle.std.specs.Prelude.{◌≡◌, ◌-◌, ◌++◌, decimal, OnOk};
-ghost use Rattle.tx_ring.specs.Rings.{few, top_of, height_of, width_of, reach_of, size_text, what_text, note_text, looks_text, head_text, box_text, tie_text, words_text, step_text, last_text, close_text, end_text};
+ghost use Rattle.std.specs.Prelude.{◌≡◌, ◌+◌, ◌-◌, ◌++◌, decimal, OnOk};
+ghost use Rattle.tx_ring.specs.Rings.{few, high_of, top_of, height_of, width_of, reach_of, size_text, what_text, note_text, looks_text, head_text, place_text, box_text, row_top, row_text, tip_text, word_text, tie_text, box_end_text, close_text, end_text};
 
 use crate::markup::put_text;
 use std::alloc::AllocError;
@@ -9,6 +9,9 @@ use tx_text::put_digits;
 /// More boxes, and longer words, are counted as so many.
 const MOST: usize = 0x1_0000_0000;
 
+/// A box has room for so many rows.
+const MOST_ROWS: usize = 64;
+
 // As many, up to the most.
 fn few(count: usize) -> u64
     ensures { result ≡ few count }
@@ -16,25 +19,32 @@ fn few(count: usize) -> u64
     count.min(MOST) as u64
 }
 
-// How far down the box at a place stands.
-fn top_of(place: usize) -> u64
-    ensures { result ≡ top_of place }
+// How high a box of so many rows is.
+fn high_of(rows: usize) -> u64
+    ensures { result ≡ high_of rows }
 {
-    72 + 100 * few(place)
+    44 + 14 * rows.min(MOST_ROWS) as u64
+}
+
+// How far down the box at a place stands, where each has so many rows.
+fn top_of(rows: usize, place: usize) -> u64
+    ensures { result ≡ top_of rows place }
+{
+    72 + (60 + high_of(rows)) * few(place)
 }
 
 // How high a picture of so many boxes is.
-fn height_of(count: usize) -> u64
-    ensures { result ≡ height_of count }
+fn height_of(rows: usize, count: usize) -> u64
+    ensures { result ≡ height_of rows count }
 {
-    90 + 100 * few(count)
+    90 + (60 + high_of(rows)) * few(count)
 }
 
 // How wide a picture is, whose words reach so far.
 fn width_of(reach: usize) -> u64
     ensures { result ≡ width_of reach }
 {
-    (190 + few(reach)).max(440)
+    (190 + few(reach)).max(452)
 }
 
 /// How far the words at an arrow reach, in the units of a picture.
@@ -54,12 +64,18 @@ fn put(out: &mut Vec<u8>, words: &str) -> Result<(), AllocError>
 }
 
 // Appends a size: two numbers with words between.
-fn put_size(out: &mut Vec<u8>, reach: usize, between: &str, count: usize) -> Result<(), AllocError>
-    ensures { OnOk result (out.new.items ≡ out.old.items ++ size_text reach between.now count) }
+fn put_size(
+    out: &mut Vec<u8>,
+    reach: usize,
+    between: &str,
+    rows: usize,
+    count: usize,
+) -> Result<(), AllocError>
+    ensures { OnOk result (out.new.items ≡ out.old.items ++ size_text reach between.now rows count) }
 {
     put_digits(out, width_of(reach))?;
     put(out, between)?;
-    put_digits(out, height_of(count))
+    put_digits(out, height_of(rows, count))
 }
 
 /// What a picture shows.
@@ -91,34 +107,35 @@ fn note_of(subject: Subject) -> &'static str
     }
 }
 
-/// Appends how a picture of so many boxes begins, whose words reach so far.
+/// Appends how a picture of so many boxes begins, each of so many rows, whose words reach so far.
 pub fn put_head(
     out: &mut Vec<u8>,
     subject: Subject,
-    title: &str,
+    title: &[u8],
+    rows: usize,
     count: usize,
     reach: usize,
 ) -> Result<(), AllocError>
-    ensures { OnOk result (out.new.items ≡ out.old.items ++ head_text subject title.now count reach) }
+    ensures { OnOk result (out.new.items ≡ out.old.items ++ head_text subject title.now rows count reach) }
 {
     put(
         out,
         "<svg xmlns=\"http://www.w3.org/2000/svg\" viewBox=\"0 0 ",
     )?;
-    put_size(out, reach, " ", count)?;
+    put_size(out, reach, " ", rows, count)?;
     put(out, "\" width=\"")?;
-    put_size(out, reach, "\" height=\"", count)?;
+    put_size(out, reach, "\" height=\"", rows, count)?;
     put_looks(out, subject, title)
 }
 
 // Appends what a picture is called, how it looks, its title, and what is said below that.
-fn put_looks(out: &mut Vec<u8>, subject: Subject, title: &str) -> Result<(), AllocError>
+fn put_looks(out: &mut Vec<u8>, subject: Subject, title: &[u8]) -> Result<(), AllocError>
     ensures { OnOk result (out.new.items ≡ out.old.items ++ looks_text subject title.now) }
 {
     put(out, FONT)?;
     put(out, what_of(subject))?;
     put(out, LOOKS)?;
-    put(out, title)?;
+    put_text(out, title)?;
     put(out, "</text>\n<text class=\"small\" x=\"20\" y=\"48\">")?;
     put(out, note_of(subject))?;
     put(out, "</text>\n")
@@ -131,7 +148,7 @@ const FONT: &str = "\" font-family=\"DejaVu Sans,Helvetica,Arial,sans-serif\">\n
 const LOOKS: &str = "</title>\n\
     <style>text{fill:#222;font-size:12px;font-weight:bold}\
     .title{font-size:15px}.small{fill:#666;font-size:10px;font-weight:normal}\
-    .middle{text-anchor:middle}.box{fill:#f4f6f9;stroke:#8a94a3}\
+    .row{fill:#333;font:10px DejaVu Sans Mono,monospace}.box{fill:#f4f6f9;stroke:#8a94a3}\
     path{stroke:#666;stroke-width:1.6;fill:none}\
     .ww path{stroke:#b00020}.wr path{stroke:#2e7d32}.rw path{stroke:#33598f}\
     .ww .kind{fill:#b00020}.wr .kind{fill:#2e7d32}.rw .kind{fill:#33598f}</style>\n\
@@ -139,45 +156,74 @@ const LOOKS: &str = "</title>\n\
     <text class=\"title\" x=\"20\" y=\"30\">";
 
 // Appends how far down the box at a place stands.
-fn put_top(out: &mut Vec<u8>, place: usize) -> Result<(), AllocError>
-    ensures { OnOk result (out.new.items ≡ out.old.items ++ decimal (top_of place)) }
+fn put_top(out: &mut Vec<u8>, rows: usize, place: usize) -> Result<(), AllocError>
+    ensures { OnOk result (out.new.items ≡ out.old.items ++ decimal (top_of rows place)) }
 {
-    put_digits(out, top_of(place))
+    put_digits(out, top_of(rows, place))
 }
 
-// Appends how far down the last of so many boxes stands.
-fn put_last_top(out: &mut Vec<u8>, count: usize) -> Result<(), AllocError>
-    ensures { OnOk result (out.new.items ≡ out.old.items ++ decimal (top_of (count - 1))) }
+// Appends how high a box of so many rows is.
+fn put_high(out: &mut Vec<u8>, rows: usize) -> Result<(), AllocError>
+    ensures { OnOk result (out.new.items ≡ out.old.items ++ decimal (high_of rows)) }
 {
-    put_top(out, count.saturating_sub(1))
+    put_digits(out, high_of(rows))
 }
 
-// Appends the beginning of a step: its box with a name.
-fn put_box(out: &mut Vec<u8>, place: usize, kind: &str, name: &[u8]) -> Result<(), AllocError>
-    ensures { OnOk result (out.new.items ≡ out.old.items ++ box_text place kind.now name.now) }
+// Appends where a box begins, and how high it is.
+fn put_place(out: &mut Vec<u8>, rows: usize, place: usize, kind: &str) -> Result<(), AllocError>
+    ensures { OnOk result (out.new.items ≡ out.old.items ++ place_text rows place kind.now) }
 {
     put(out, "<g class=\"")?;
     put(out, kind)?;
     put(out, "\" transform=\"translate(56 ")?;
-    put_top(out, place)?;
-    put(out, BOX)?;
-    out.extend_from_slice(name)
+    put_top(out, rows, place)?;
+    put(out, ")\">\n<rect class=\"box\" width=\"372\" height=\"")?;
+    put_high(out, rows)
 }
 
-// A box, up to its name.
-const BOX: &str = ")\">\n<rect class=\"box\" width=\"176\" height=\"40\" rx=\"6\"/>\n\
-    <text class=\"small middle\" x=\"88\" y=\"16\">transaction</text>\n\
-    <text class=\"middle\" x=\"88\" y=\"31\">";
-
-// Appends the words at an arrow.
-fn put_words(out: &mut Vec<u8>, label: &[u8], sense: &[u8]) -> Result<(), AllocError>
-    ensures { OnOk result (out.new.items ≡ out.old.items ++ words_text label.now sense.now) }
+/// Appends the beginning of the box at a place, which is of a kind and has so many rows: its name,
+/// and what is said of it.
+pub fn put_box(
+    out: &mut Vec<u8>,
+    rows: usize,
+    place: usize,
+    kind: &str,
+    name: &[u8],
+    about: &[u8],
+) -> Result<(), AllocError>
+    ensures { OnOk result (out.new.items ≡ out.old.items ++ box_text rows place kind.now name.now about.now) }
 {
-    out.extend_from_slice(b"</text>\n<text class=\"kind\" x=\"104\" y=\"62\">")?;
-    put_text(out, label)?;
-    out.extend_from_slice(b"</text>\n<text class=\"small\" x=\"104\" y=\"77\">")?;
-    put_text(out, sense)?;
-    out.extend_from_slice(b"</text>\n")
+    put_place(out, rows, place, kind)?;
+    put(out, "\" rx=\"6\"/>\n<text x=\"12\" y=\"18\">transaction ")?;
+    put_text(out, name)?;
+    put(out, "</text>\n<text class=\"small\" x=\"12\" y=\"33\">")?;
+    put_text(out, about)?;
+    put(out, "</text>\n")
+}
+
+// How far down a row of a box stands.
+fn row_top(number: usize) -> u64
+    ensures { result ≡ row_top number }
+{
+    50 + 14 * few(number)
+}
+
+// Appends how far down a row of a box stands.
+fn put_row_top(out: &mut Vec<u8>, number: usize) -> Result<(), AllocError>
+    ensures { OnOk result (out.new.items ≡ out.old.items ++ decimal (row_top number)) }
+{
+    put_digits(out, row_top(number))
+}
+
+/// Appends a row of a box, of its number from 0 on.
+pub fn put_row(out: &mut Vec<u8>, number: usize, text: &[u8]) -> Result<(), AllocError>
+    ensures { OnOk result (out.new.items ≡ out.old.items ++ row_text number text.now) }
+{
+    put(out, "<text class=\"row\" x=\"12\" y=\"")?;
+    put_row_top(out, number)?;
+    put(out, "\">")?;
+    put_text(out, text)?;
+    put(out, "</text>\n")
 }
 
 /// What leads from a box to the next one.
@@ -189,58 +235,94 @@ pub enum Tie {
     Nothing,
 }
 
-// Appends what leads to the next box, and the end of a step.
-fn put_tie(out: &mut Vec<u8>, tie: Tie) -> Result<(), AllocError>
-    ensures { OnOk result (out.new.items ≡ out.old.items ++ tie_text tie) }
+// What leads to the next box from the bottom of this one, behind how far down that is.
+fn tip_of(tie: Tie) -> &'static str
+    ensures { result.now ≡ tip_text tie }
 {
     match tie {
-        Tie::Arrow => { out.extend_from_slice(b"<path d=\"M88 40v58m-5 -8l5 8l5 -8\"/></g>\n") }
-        Tie::Line => out.extend_from_slice(b"<path d=\"M88 40v58\"/></g>\n"),
-        Tie::Nothing => out.extend_from_slice(b"</g>\n"),
+        Tie::Arrow => "v58m-5 -8l5 8l5 -8",
+        Tie::Line => "v58",
+        Tie::Nothing => "",
     }
 }
 
-/// Appends the box at a place with its name, and what leads to the next one, which is of a kind,
-/// with its words. The arrow of the last one of a ring is drawn at the end.
-pub fn put_step(
-    out: &mut Vec<u8>,
-    place: usize,
-    tie: Tie,
-    kind: &str,
-    name: &[u8],
-    label: &[u8],
-    sense: &[u8],
-) -> Result<(), AllocError>
-    ensures { OnOk result (out.new.items ≡ out.old.items
-        ++ step_text place tie kind.now name.now label.now sense.now) }
+// Appends how far down that is which stands so many units below a box.
+fn put_below(out: &mut Vec<u8>, rows: usize, below: u8) -> Result<(), AllocError>
+    ensures { OnOk result (out.new.items ≡ out.old.items ++ decimal (high_of rows + below)) }
 {
-    put_box(out, place, kind, name)?;
-    put_words(out, label, sense)?;
-    put_tie(out, tie)
+    put_digits(out, high_of(rows) + u64::from(below))
 }
 
-/// Appends the box at a place with its name, from which nothing leads on.
-pub fn put_last(out: &mut Vec<u8>, place: usize, name: &[u8]) -> Result<(), AllocError>
-    ensures { OnOk result (out.new.items ≡ out.old.items ++ last_text place name.now) }
+// Appends words below a box, so many units below its bottom.
+fn put_word(
+    out: &mut Vec<u8>,
+    rows: usize,
+    class: &str,
+    below: u8,
+    words: &[u8],
+) -> Result<(), AllocError>
+    ensures { OnOk result (out.new.items ≡ out.old.items ++ word_text rows class.now below words.now) }
 {
-    put_box(out, place, "last", name)?;
-    out.extend_from_slice(b"</text>\n</g>\n")
+    put(out, "<text class=\"")?;
+    put(out, class)?;
+    put(out, "\" x=\"104\" y=\"")?;
+    put_below(out, rows, below)?;
+    put(out, "\">")?;
+    put_text(out, words)?;
+    put(out, "</text>\n")
+}
+
+/// Appends what leads from a box to the next one, with its words and what shows it, and the end of
+/// the box. The arrow of the last box of a ring is drawn at the end.
+pub fn put_tie(
+    out: &mut Vec<u8>,
+    rows: usize,
+    tie: Tie,
+    label: &[u8],
+    sense: &[u8],
+    shown: &[u8],
+) -> Result<(), AllocError>
+    ensures { OnOk result (out.new.items ≡ out.old.items ++ tie_text rows tie label.now sense.now shown.now) }
+{
+    put(out, "<g><title>")?;
+    put_text(out, shown)?;
+    put(out, "</title>\n")?;
+    put_word(out, rows, "kind", 22, label)?;
+    put_word(out, rows, "small", 37, sense)?;
+    put(out, "<path d=\"M88 ")?;
+    put_high(out, rows)?;
+    put(out, tip_of(tie))?;
+    put(out, "\"/></g></g>\n")
+}
+
+/// Appends the end of a box from which nothing leads on.
+pub fn put_end_of_box(out: &mut Vec<u8>) -> Result<(), AllocError>
+    ensures { OnOk result (out.new.items ≡ out.old.items ++ box_end_text) }
+{
+    put(out, "</g>\n")
 }
 
 /// Appends the end of a picture that is no ring.
 pub fn put_close(out: &mut Vec<u8>) -> Result<(), AllocError>
     ensures { OnOk result (out.new.items ≡ out.old.items ++ close_text) }
 {
-    out.extend_from_slice(b"</svg>\n")
+    put(out, "</svg>\n")
+}
+
+// Appends how far down the last of so many boxes ends.
+fn put_bottom(out: &mut Vec<u8>, rows: usize, count: usize) -> Result<(), AllocError>
+    ensures { OnOk result (out.new.items ≡ out.old.items ++ decimal (top_of rows (count - 1) + high_of rows)) }
+{
+    put_digits(out, top_of(rows, count.saturating_sub(1)) + high_of(rows))
 }
 
 /// Appends the arrow from the last of so many boxes to the first, which is of a kind, and the end.
-pub fn put_end(out: &mut Vec<u8>, count: usize, kind: &str) -> Result<(), AllocError>
-    ensures { OnOk result (out.new.items ≡ out.old.items ++ end_text count kind.now) }
+pub fn put_end(out: &mut Vec<u8>, rows: usize, count: usize, kind: &str) -> Result<(), AllocError>
+    ensures { OnOk result (out.new.items ≡ out.old.items ++ end_text rows count kind.now) }
 {
     put(out, "<g class=\"")?;
     put(out, kind)?;
     put(out, "\"><path d=\"M144 ")?;
-    put_last_top(out, count)?;
-    put(out, "m0 40v42H30V92h24m-8 -5l8 5l-8 5\"/></g>\n</svg>\n")
+    put_bottom(out, rows, count)?;
+    put(out, "v42H30V92h24m-8 -5l8 5l-8 5\"/></g>\n</svg>\n")
 }

@@ -78,7 +78,9 @@ fn question_of(told: tx_command::ImportOptions) -> Question {
 
 // How a cycle is told.
 fn form_of(told: tx_command::ImportOptions) -> CycleForm {
-    if told.svg {
+    if told.html {
+        CycleForm::Page
+    } else if told.svg {
         CycleForm::Picture
     } else if told.dot {
         CycleForm::Graph

@@ -1,7 +1,0 @@
-use Rattle.std.proofs.Common.{◌≡◌, ◌++◌, take}
-use Rattle.std.specs.List.{flat_map}
-use Rattle.tx_answers.specs.Drawings.{settled_text}
-use Rattle.tx_answers.proofs.drawing.put_all_settled.Given as goal
-
-abbrev pub invariant-loop-fact : goal.invariant-loop-fact
-invariant-loop-fact l = l.out.items ≡ l.fn.out.items ++ flat_map (settled_text l.history) (take l.fact-index l.facts)

@@ -1,7 +1,0 @@
-use Rattle.std.proofs.Common.{◌≡◌, ◌++◌, take}
-use Rattle.std.specs.List.{flat_map}
-use Rattle.tx_answers.specs.Drawings.{arrow_text}
-use Rattle.tx_answers.proofs.drawing.put_arrows.Given as goal
-
-abbrev pub invariant-loop-step : goal.invariant-loop-step
-invariant-loop-step l = l.out.items ≡ l.fn.out.items ++ flat_map (arrow_text l.history) (take l.step-index l.steps)

@@ -1,7 +1,0 @@
-use Rattle.std.proofs.Common.{◌≡◌, ◌++◌}
-use Rattle.tx_answers.specs.Traces.{each_of}
-use Rattle.tx_answers.specs.Pictures.{piece_at}
-use Rattle.tx_answers.proofs.picture.put_pieces.Given as goal
-
-abbrev pub invariant-loop-i : goal.invariant-loop-i
-invariant-loop-i l = l.out.items ≡ l.fn.out.items ++ each_of (piece_at l.history l.steps) l.i

@@ -1,7 +1,0 @@
-use Rattle.std.proofs.Common.{◌≡◌}
-use Rattle.tx_verdict.specs.Steps.{step_at}
-use Rattle.tx_answers.specs.Pictures.{reach_at, most_of}
-use Rattle.tx_answers.proofs.picture.reach_over.Given as goal
-
-abbrev pub invariant-loop-i : goal.invariant-loop-i
-invariant-loop-i l = l.most ≡ most_of (λ i. reach_at l.history (step_at l.steps i)) l.i

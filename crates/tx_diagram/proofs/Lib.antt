@@ -1,0 +1,4 @@
+-- A list that is made piece by piece.
+pub mod Pieces
+-- What is known of a result.
+pub mod Known

@@ -1,0 +1,4 @@
+pub mod Boxes
+pub mod Drawings
+pub mod Pictures
+pub mod Reads

@@ -1,0 +1,2 @@
+-- Words are text, and a line is written part by part.
+pub mod Lines
