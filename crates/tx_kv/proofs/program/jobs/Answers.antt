@@ -1,4 +1,4 @@
-use Rattle.std.proofs.Common.{◌≡◌, ◌<◌, All, subst, ◌++◌, ◌∷◌, [], ◌+◌, ℕ, List, ap, sym, arith, rules, vec_len, ◌∙◌}
+use Rattle.std.proofs.Common.{◌≡◌, ◌<◌, All, subst, ◌++◌, ◌∷◌, [], ℕ, List, ap, sym, rules, vec_len, ◌∙◌}
 use Rattle.std.proofs.Math.Numerals.{add-one}
 use Rattle.tx_kv.specs.Programs.{numbers_below}
 use Rattle.tx_kv.proofs.ClientNumbers.{all_numbers}
