@@ -10,8 +10,8 @@ numbers_below zero = []
 numbers_below (suc n) = numbers_below n ++ n ∷ []
 
 -- Why a store is not opened over regions with so many keys between them, for so many clients: two
--- of the keys do not rise; regions, and two seats a client and two more, are above 1,024; one of the
--- keys has no byte, or more than 512; or memory was refused.
+-- of the keys do not rise; regions, and two seats a client and two more, are above 1,024; one of
+-- the keys has no byte, or more than 512; or memory was refused.
 abbrev pub IsUnopened : ℕ → ℕ → Unopened → Type 0
 IsUnopened keys clients NotRising = 1 < keys
 IsUnopened keys clients TooMany = 1024 < keys + 1 + (clients * 2 + 2)
