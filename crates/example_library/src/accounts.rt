@@ -4,9 +4,7 @@
 use std::alloc::Global;
 use std::sync::Wait;
 use std::thread::Threads;
-use tx_kv::{
-    Client, Failure, Fault, JournalId, Key, KeyRange, Program, Tx, Value, Work, with_store,
-};
+use tx_kv::*;
 use tx_tuple::Part::{Text, Unsigned};
 use tx_tuple::pack;
 
@@ -16,67 +14,46 @@ const ACCOUNTS: u64 = 12;
 const FIRST: u64 = 100;
 
 // The key of an account.
-fn key_of(alloc: Global, number: u64) -> Result<Key, Fault> {
+fn account(alloc: Global, number: u64) -> Result<Key, Fault> {
     pack(alloc, &[Text("account"), Unsigned(number)])
 }
 
 // What an account has.
-fn money_in(value: &Value) -> u64 {
-    match value.as_bytes() {
-        [a, b] => u64::from(u16::from_be_bytes([*a, *b])),
-        _ => 0,
-    }
+fn held<T: Tx>(tx: &mut T, account: &Key) -> Result<Option<u64>, Stop> {
+    Ok(tx.get(account)?.and_then(|value| unpack_number(&value)))
 }
 
-// What an account is to have.
-fn money(alloc: Global, amount: u64) -> Result<Value, Fault> {
-    let held = u16::try_from(amount).unwrap_or(u16::MAX);
-    Value::new(alloc, &held.to_be_bytes())
-}
-
-/// Opens each account.
+/// Opens the accounts, or moves an amount from one to another: false where that has less.
 #[derive(Drop)]
-struct Open;
-
-impl Work for Open {
-    type Out = ();
-
-    type Err = ();
-
-    fn apply<T: Tx>(&mut self, tx: &mut T) -> Result<(), Failure<()>> {
-        for number in 0..ACCOUNTS {
-            let (key, value) = (key_of(tx.alloc(), number)?, money(tx.alloc(), FIRST)?);
-            tx.insert(key, value)?;
-        }
-        Ok(())
-    }
+enum Order {
+    Open,
+    Move(u64, u64, u64),
 }
 
-/// Moves an amount from one account to another: false where that has less.
-#[derive(Drop)]
-struct Move(u64, u64, u64);
-
-impl Work for Move {
+impl Work for Order {
     type Out = bool;
 
     type Err = ();
 
     fn apply<T: Tx>(&mut self, tx: &mut T) -> Result<bool, Failure<()>> {
-        let Move(from, to, amount) = *self;
-        if from == to {
+        let alloc = tx.alloc();
+        let Order::Move(from, to, amount) = *self else {
+            for number in 0..ACCOUNTS {
+                tx.insert(account(alloc, number)?, pack_number(alloc, FIRST)?)?;
+            }
             return Ok(true);
+        };
+        let (from, to) = (account(alloc, from)?, account(alloc, to)?);
+        let (Some(less), Some(more)) = (held(tx, &from)?, held(tx, &to)?) else {
+            return Ok(false);
+        };
+        let (Some(less), Some(more)) = (less.checked_sub(amount), more.checked_add(amount)) else {
+            return Ok(false);
+        };
+        if from != to {
+            tx.put(from, pack_number(alloc, less)?)?;
+            tx.put(to, pack_number(alloc, more)?)?;
         }
-        let (from, to) = (key_of(tx.alloc(), from)?, key_of(tx.alloc(), to)?);
-        let (Some(less), Some(more)) = (tx.get(&from)?, tx.get(&to)?) else {
-            return Ok(false);
-        };
-        let Some(left) = money_in(&less).checked_sub(amount) else {
-            return Ok(false);
-        };
-        let more = money_in(&more).saturating_add(amount);
-        let (left, more) = (money(tx.alloc(), left)?, money(tx.alloc(), more)?);
-        tx.put(from, left)?;
-        tx.put(to, more)?;
         Ok(true)
     }
 }
@@ -85,56 +62,42 @@ impl Work for Move {
 #[derive(Drop)]
 struct Bank;
 
-// How many accounts there are, and what they have together.
-fn audit<J: JournalId, R: Wait>(client: &mut Client<'_, J, R>) -> Option<(usize, u64)> {
-    let mut view = client.view().ok()?;
-    let name = pack(view.alloc(), &[Text("account")]).ok()?;
-    let table = KeyRange::prefix(view.alloc(), name.as_bytes()).ok()?;
-    let rows = view.range(Some(table.from), table.to).ok()?;
-    let all = rows.iter().fold(0, |sum: u64, row| sum.saturating_add(money_in(&row.value)));
-    Some((rows.len(), all))
-}
-
 impl<R: Wait> Program<R> for Bank {
     /// How many transfers were refused.
-    type Out = u32;
+    type Out = u64;
 
-    type Answer = Option<(usize, u64, bool)>;
+    type Answer = anyhow::Result<String>;
 
     fn begin<J: JournalId>(&mut self, client: &mut Client<'_, J, R>) {
-        drop(client.update(&mut Open));
+        drop(client.update(&mut Order::Open));
     }
 
-    fn run<J: JournalId>(&self, client: &mut Client<'_, J, R>) -> u32 {
-        let mut refused: u32 = 0;
+    fn run<J: JournalId>(&self, client: &mut Client<'_, J, R>) -> u64 {
+        let mut moved: u64 = 0;
         for n in 0..60u64 {
             let to = (n * 5 + 1 + client.number() as u64 % 2) % ACCOUNTS;
-            let moved = client.update(&mut Move(n % ACCOUNTS, to, n * 7 % 90));
-            if !moved.is_ok_and(|moved| moved.value) {
-                refused = refused.saturating_add(1);
-            }
+            let order = client.update(&mut Order::Move(n % ACCOUNTS, to, n * 7 % 90));
+            moved = moved.saturating_add(u64::from(order.is_ok_and(|order| order.value)));
         }
-        refused
+        60u64.saturating_sub(moved)
     }
 
-    fn end<J: JournalId>(
-        self,
-        client: &mut Client<'_, J, R>,
-        refused: Vec<u32>,
-    ) -> Option<(usize, u64, bool)> {
-        let (accounts, all) = audit(client)?;
-        Some((accounts, all, refused.iter().any(|n| *n > 0)))
+    fn end<J: JournalId>(self, client: &mut Client<'_, J, R>, refused: Vec<u64>) -> Self::Answer {
+        let table = pack(client.alloc(), &[Text("account")])?;
+        let rows = client.view()?.range_prefix(table.as_bytes())?;
+        let sums = rows
+            .iter()
+            .map(|row| unpack_number(&row.value).unwrap_or(0));
+        let all = sums.fold(0, u64::saturating_add);
+        let poor = refused.iter().any(|n| *n > 0);
+        let (accounts, alloc) = (rows.len(), client.alloc());
+        Ok(format!(in alloc; "{accounts} accounts, {all} in all, some had too little: {poor}")?)
     }
 }
 
 /// Opens a store of two regions, and has two clients move money in it.
-pub fn show<R>(rt: &R) -> anyhow::Result<()>
-where
-    R: Print + AllocGlobal + Threads + Wait + Sync,
-{
-    let middle = pack(rt.alloc(), &[Text("account"), Unsigned(ACCOUNTS / 2)])?;
-    let found = with_store(rt, rt.alloc(), &[middle.as_bytes()], 2, Bank)?;
-    let (accounts, all, poor) = found.unwrap_or((0, 0, false));
-    println!(rt; "{accounts} accounts, {all} in all, some had too little: {poor}")?;
-    Ok(())
+pub fn show<R: Print + AllocGlobal + Threads + Wait + Sync>(rt: &R) -> anyhow::Result<()> {
+    let middle = account(rt.alloc(), ACCOUNTS / 2)?;
+    let told = with_store(rt, rt.alloc(), &[middle.as_bytes()], 2, Bank)??;
+    Ok(println!(rt; "{told}")?)
 }

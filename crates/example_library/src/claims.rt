@@ -3,9 +3,7 @@
 //! claim; a claim that has grown old is taken over, and each job is done once.
 use std::sync::Wait;
 use std::thread::Threads;
-use tx_kv::{
-    Client, Failure, JournalId, Key, KeyRange, Program, Stop, Tx, Value, Work, with_store,
-};
+use tx_kv::*;
 use tx_tuple::Part::{Text, Unsigned};
 use tx_tuple::{OwnedPart, Part, pack, unpack};
 
@@ -38,78 +36,69 @@ fn first<T: Tx>(tx: &mut T, table: &str) -> Result<Option<(Key, u64, u64)>, Stop
     })
 }
 
-/// Adds the jobs.
+/// What a worker does to the queue: it adds the jobs, claims the oldest claim, where that is old,
+/// and else the next job, or notes a job that it claimed as done.
 #[derive(Drop)]
-struct Fill;
-
-impl Work for Fill {
-    type Out = ();
-
-    type Err = ();
-
-    fn apply<T: Tx>(&mut self, tx: &mut T) -> Result<(), Failure<()>> {
-        for job in 0..JOBS {
-            note(tx, &[Text("to do"), Unsigned(job)])?;
-        }
-        Ok(())
-    }
+enum Order {
+    Fill,
+    Claim,
+    Finish(u64, u64),
 }
 
-/// What a worker is told that asks for a job.
+/// What comes of that.
 #[derive(Drop)]
-enum Claimed {
+enum Told {
+    /// It is done.
+    Done,
     /// A job, when it was claimed, and whether somebody else had claimed it.
     Job(u64, u64, bool),
     /// Others have claimed what is left.
     Wait,
-    /// All is done.
-    Done,
+    /// Nothing is left; or the claim was taken over.
+    Nothing,
 }
 
-/// Claims the oldest claim, where it is old, and else the next job.
-#[derive(Drop)]
-struct Claim;
+// Claims a job.
+fn claim<T: Tx>(tx: &mut T) -> Result<Told, Stop> {
+    let now = tx.start().get();
+    let claimed = first(tx, "claimed")?;
+    let waits = claimed.is_some();
+    let over = matches!(&claimed, Some((_, _, at)) if now.saturating_sub(*at) > OLD);
+    let next = if over { claimed } else { first(tx, "to do")? };
+    let Some((key, job, _)) = next else {
+        return Ok(if waits { Told::Wait } else { Told::Nothing });
+    };
+    tx.delete(key)?;
+    note(tx, &[Text("claimed"), Unsigned(now), Unsigned(job)])?;
+    Ok(Told::Job(job, now, over))
+}
 
-impl Work for Claim {
-    type Out = Claimed;
-
-    type Err = ();
-
-    fn apply<T: Tx>(&mut self, tx: &mut T) -> Result<Claimed, Failure<()>> {
-        let now = tx.start().get();
-        let claimed = first(tx, "claimed")?;
-        let over = claimed
-            .as_ref()
-            .is_some_and(|claim| now.saturating_sub(claim.2) > OLD);
-        let waits = claimed.is_some();
-        let next = if over { claimed } else { first(tx, "to do")? };
-        let Some((key, job, _)) = next else {
-            return Ok(if waits { Claimed::Wait } else { Claimed::Done });
-        };
-        tx.delete(key)?;
-        note(tx, &[Text("claimed"), Unsigned(now), Unsigned(job)])?;
-        Ok(Claimed::Job(job, now, over))
+// Notes a job as done.
+fn finish<T: Tx>(tx: &mut T, job: u64, at: u64) -> Result<Told, Stop> {
+    let claim = pack(tx.alloc(), &[Text("claimed"), Unsigned(at), Unsigned(job)])?;
+    if tx.get(&claim)?.is_none() {
+        return Ok(Told::Nothing);
     }
+    tx.delete(claim)?;
+    note(tx, &[Text("done"), Unsigned(job)])?;
+    Ok(Told::Done)
 }
 
-/// Notes a job as done: false where the claim was taken over.
-#[derive(Drop)]
-struct Finish(u64, u64);
-
-impl Work for Finish {
-    type Out = bool;
+impl Work for Order {
+    type Out = Told;
 
     type Err = ();
 
-    fn apply<T: Tx>(&mut self, tx: &mut T) -> Result<bool, Failure<()>> {
-        let Finish(job, at) = *self;
-        let claim = pack(tx.alloc(), &[Text("claimed"), Unsigned(at), Unsigned(job)])?;
-        if tx.get(&claim)?.is_none() {
-            return Ok(false);
+    fn apply<T: Tx>(&mut self, tx: &mut T) -> Result<Told, Failure<()>> {
+        match *self {
+            Order::Claim => return Ok(claim(tx)?),
+            Order::Finish(job, at) => return Ok(finish(tx, job, at)?),
+            Order::Fill => (),
         }
-        tx.delete(claim)?;
-        note(tx, &[Text("done"), Unsigned(job)])?;
-        Ok(true)
+        for job in 0..JOBS {
+            note(tx, &[Text("to do"), Unsigned(job)])?;
+        }
+        Ok(Told::Done)
     }
 }
 
@@ -117,23 +106,15 @@ impl Work for Finish {
 #[derive(Clone, Copy, Drop)]
 struct Tally(u64, u64, u64);
 
-// One job: whether there may be more.
-fn work<J: JournalId, R: Wait>(client: &mut Client<'_, J, R>, tally: &mut Tally) -> Option<bool> {
-    let Tally(done, over, lost) = *tally;
-    let (job, at, taken) = match client.update(&mut Claim).ok()?.value {
-        Claimed::Job(job, at, taken) => (job, at, taken),
-        Claimed::Wait => return Some(true),
-        Claimed::Done => return Some(false),
-    };
-    let over = over.saturating_add(u64::from(taken));
-    // Each third job is forgotten by whoever claims it first.
-    let kept = (taken || job % 3 != 0) && client.update(&mut Finish(job, at)).ok()?.value;
-    *tally = Tally(
-        done.saturating_add(u64::from(kept)),
-        over,
-        lost.saturating_add(u64::from(!kept)),
-    );
-    Some(true)
+impl Tally {
+    // The sum of two.
+    fn and(self, other: Tally) -> Tally {
+        Tally(
+            self.0.saturating_add(other.0),
+            self.1.saturating_add(other.1),
+            self.2.saturating_add(other.2),
+        )
+    }
 }
 
 /// A queue that is filled, and then emptied.
@@ -146,37 +127,45 @@ impl<R: Wait> Program<R> for Queue {
     type Answer = Tally;
 
     fn begin<J: JournalId>(&mut self, client: &mut Client<'_, J, R>) {
-        drop(client.update(&mut Fill));
+        drop(client.update(&mut Order::Fill));
     }
 
     fn run<J: JournalId>(&self, client: &mut Client<'_, J, R>) -> Tally {
-        let mut tally = Tally(0, 0, 0);
+        let mut counts = Tally(0, 0, 0);
         for _ in 0..100_000u32 {
-            if work(client, &mut tally) != Some(true) {
-                break;
-            }
+            let (job, at, over) = match client.update(&mut Order::Claim) {
+                Ok(
+                    Updated {
+                        value: Told::Job(job, at, over),
+                        ..
+                    },
+                ) => (job, at, over),
+                Ok(
+                    Updated {
+                        value: Told::Wait,
+                        ..
+                    },
+                ) => continue,
+                _ => break,
+            };
+            // Each third job is forgotten by whoever claims it first.
+            let kept = (over || job % 3 != 0)
+                && client
+                    .update(&mut Order::Finish(job, at))
+                    .is_ok_and(|done| matches!(done.value, Told::Done));
+            counts = counts.and(Tally(u64::from(kept), u64::from(over), u64::from(!kept)));
         }
-        tally
+        counts
     }
 
     fn end<J: JournalId>(self, _: &mut Client<'_, J, R>, each: Vec<Tally>) -> Tally {
-        each.into_iter().fold(Tally(0, 0, 0), |all, one| {
-            Tally(
-                all.0.saturating_add(one.0),
-                all.1.saturating_add(one.1),
-                all.2.saturating_add(one.2),
-            )
-        })
+        each.into_iter().fold(Tally(0, 0, 0), Tally::and)
     }
 }
 
 /// Opens a store of one region, and has two workers empty a queue in it.
-pub fn show<R>(rt: &R) -> anyhow::Result<()>
-where
-    R: Print + AllocGlobal + Threads + Wait + Sync,
-{
+pub fn show<R: Print + AllocGlobal + Threads + Wait + Sync>(rt: &R) -> anyhow::Result<()> {
     let Tally(done, over, lost) = with_store(rt, rt.alloc(), &[], 2, Queue)?;
     let again = lost >= JOBS / 3 && over == lost;
-    println!(rt; "{done} jobs done, each claim that was lost taken over: {again}")?;
-    Ok(())
+    Ok(println!(rt; "{done} jobs done, each claim that was lost taken over: {again}")?)
 }

@@ -2,9 +2,7 @@
 //! items are gone over page by page, and the client collects old versions by itself.
 use std::sync::Wait;
 use std::thread::Threads;
-use tx_kv::{
-    Client, Failure, JournalId, Key, KeyRange, Program, Stop, Tx, Value, View, Work, with_store,
-};
+use tx_kv::*;
 
 // How many items there are.
 const ITEMS: u8 = 5;
@@ -21,8 +19,8 @@ impl Work for Fill {
     fn apply<T: Tx>(&mut self, tx: &mut T) -> Result<(), Failure<()>> {
         for item in 0..ITEMS {
             let key = Key::new(tx.alloc(), &[b'i', b't', b'e', b'm', b'/', item])?;
-            let value = Value::new(tx.alloc(), &[10])?;
-            tx.put(key, value)?;
+            let ten = pack_number(tx.alloc(), 10)?;
+            tx.put(key, ten)?;
         }
         Ok(())
     }
@@ -45,9 +43,9 @@ impl Work for Sell {
             };
             let page = tx.page(range, 2)?;
             for row in page.rows {
-                let held = row.value.as_bytes().first().copied().unwrap_or(0);
-                let value = Value::new(tx.alloc(), &[held.saturating_sub(1)])?;
-                tx.put(row.key, value)?;
+                let held = unpack_number(&row.value).unwrap_or(0);
+                let less = pack_number(tx.alloc(), held.saturating_sub(1))?;
+                tx.put(row.key, less)?;
             }
             rest = page.rest;
         }
@@ -56,29 +54,12 @@ impl Work for Sell {
 }
 
 // What a view shows of all items together.
-fn stock<J: JournalId, R: Wait>(view: &mut View<'_, '_, J, R>) -> Result<u32, Stop> {
-    let items = KeyRange::prefix(view.alloc(), b"item/")?;
-    let mut sum: u32 = 0;
-    for row in view.range(Some(items.from), items.to)? {
-        let held = row.value.as_bytes().first().copied().unwrap_or(0);
-        sum = sum.saturating_add(u32::from(held));
-    }
-    Ok(sum)
-}
-
-// What there was before, what is left, and how often the client collected.
-fn counted<J: JournalId, R: Wait>(client: &mut Client<'_, J, R>) -> Option<(u32, u32, u64)> {
-    client.collect_every(2);
-    let Ok(pin) = client.pin() else {
-        return None;
-    };
-    for _ in 0..6u8 {
-        drop(client.update(&mut Sell).ok()?);
-    }
-    let before = stock(&mut client.view_at(pin.at())).ok()?;
-    drop(pin);
-    let left = stock(&mut client.view().ok()?).ok()?;
-    Some((before, left, client.stats().collections))
+fn stock<J: JournalId, R: Wait>(mut view: View<'_, '_, J, R>) -> Result<u64, Stop> {
+    let items = view.range_prefix(b"item/")?;
+    let held = items
+        .iter()
+        .map(|row| unpack_number(&row.value).unwrap_or(0));
+    Ok(held.fold(0, u64::saturating_add))
 }
 
 /// A stock that is filled, and then sold.
@@ -88,33 +69,29 @@ struct Shop;
 impl<R: Wait> Program<R> for Shop {
     type Out = ();
 
-    type Answer = Option<(u32, u32, u64)>;
+    type Answer = anyhow::Result<String>;
 
-    fn begin<J: JournalId>(&mut self, client: &mut Client<'_, J, R>) {
-        drop(client.update(&mut Fill));
-    }
+    fn run<J: JournalId>(&self, _: &mut Client<'_, J, R>) {}
 
-    fn run<J: JournalId>(&self, client: &mut Client<'_, J, R>) {
-        let _ = client;
-    }
-
-    fn end<J: JournalId>(
-        self,
-        client: &mut Client<'_, J, R>,
-        _: Vec<()>,
-    ) -> Option<(u32, u32, u64)> {
-        counted(client)
+    fn end<J: JournalId>(self, client: &mut Client<'_, J, R>, _: Vec<()>) -> Self::Answer {
+        client.update(&mut Fill)?;
+        client.collect_every(2);
+        let pin = client.pin()?;
+        for _ in 0..6u8 {
+            client.update(&mut Sell)?;
+        }
+        let before = stock(client.view_at(pin.at()))?;
+        drop(pin);
+        let left = stock(client.view()?)?;
+        let (times, alloc) = (client.stats().collections, client.alloc());
+        Ok(format!(in alloc;
+            "{before} in stock, {left} left, old versions collected {times} times"
+        )?)
     }
 }
 
 /// Opens a store of two regions, and sells what is in it.
-pub fn show<R>(rt: &R) -> anyhow::Result<()>
-where
-    R: Print + AllocGlobal + Threads + Wait + Sync,
-{
-    let (before, left, times) = with_store(rt, rt.alloc(), &[b"item/\x02"], 1, Shop)?.unwrap_or((
-        0, 0, 0,
-    ));
-    println!(rt; "{before} in stock, {left} left, old versions collected {times} times")?;
-    Ok(())
+pub fn show<R: Print + AllocGlobal + Threads + Wait + Sync>(rt: &R) -> anyhow::Result<()> {
+    let told = with_store(rt, rt.alloc(), &[b"item/\x02"], 0, Shop)??;
+    Ok(println!(rt; "{told}")?)
 }

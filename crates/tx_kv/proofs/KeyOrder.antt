@@ -1,5 +1,5 @@
 -- Keys that a test finds to rise do.
-use Rattle.std.proofs.Common.{◌≡◌, ◌<◌, true, List, [], ◌∷◌, length, refl, arith}
+use Rattle.std.proofs.Common.{◌≡◌, ◌<◌, true, false, List, [], ◌∷◌, length, refl, arith}
 use Rattle.std.proofs.lemmas.Bool.{and_parts}
 use Rattle.tx_types.specs.declared.key.Key.{Key}
 use Rattle.tx_types.specs.Keys.{key_lt, AreRising}
@@ -16,3 +16,9 @@ pub few_rise : (ks : List Key) → length ks < 2 → true ≡ are_rising ks
 few_rise [] few = refl
 few_rise (k ∷ []) few = refl
 few_rise (j ∷ k ∷ ks) few = absurd (omega arith)
+
+-- those that do not are two at least
+pub two_fall : (ks : List Key) → are_rising ks ≡ false → 1 < length ks
+two_fall [] is = absurd (cc (is))
+two_fall (k ∷ []) is = absurd (cc (is))
+two_fall (j ∷ k ∷ ks) is = omega arith

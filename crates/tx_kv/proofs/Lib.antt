@@ -2,5 +2,6 @@
 mod Collections
 mod Draws
 mod KeyOrder
+mod ClientNumbers
 mod UpdateResults
 mod Views

@@ -28,7 +28,7 @@ use Rattle.tx_update.specs.declared.ended.Unended.TheVariants as unended
 use Rattle.tx_update.specs.Failures.{TellsOfWork}
 use Rattle.tx_update.specs.Updates.{SeatGoesOn, GoesWithoutEffect, IsWithoutEffect, EndedWith, Writes, Wrote}
 use Rattle.tx_update.proofs.CallSequences.{goes_more, recorded_begins}
-use Rattle.tx_kv.specs.Clients.{ClientState, commit_of, HasValue, IsNotKnown, TellsEnd, TellsNoEnd, Updates, WentWell, WroteAll}
+use Rattle.tx_kv.specs.Clients.{ClientState, Place, KeepsTerms, commit_of, HasValue, IsNotKnown, TellsEnd, TellsNoEnd, Updates, WentWell, WroteAll}
 use Rattle.tx_kv.specs.UpdateResults.{told_stop, told_commit, told_reads, told_end}
 
 -- a seat that saw what others did goes on
@@ -163,8 +163,8 @@ module _ {J W O E : Type 0} (does : W → Entries → Result O (Failure E) → E
     (stops_at : W → ℕ → Stop → Type 0) (bounds : List Key) (old : ClientState J) (before after_it : W)
     (r : Result (Updated O) (NotUpdated E)) (seats : Seats J) where
   abbrev Here : Type 0
-  Here = Updates does stops_at bounds old before r (record { seats = seats; terms = old.terms; again = old.again })
-      after_it
+  Here = Updates does stops_at bounds old before r
+      (record { seats = seats; terms = old.terms; again = old.again; place = old.place }) after_it
 
   pub updates_so : (came : Result (Ended J O E) (Unended J E))
       → IfOk came (λ (e : Ended J O E). (e.retries ≤ old.again)
@@ -176,8 +176,7 @@ module _ {J W O E : Type 0} (does : W → Entries → Result O (Failure E) → E
       → IfErr came (λ (u : Unended J E). TellsNoEnd bounds u r seats)
       → Here
   updates_so (Ok e) (few, ends) last unit tells never = (
-    refl,
-    refl,
+    (refl, refl, refl),
     inl (
       e,
       few,
@@ -189,23 +188,22 @@ module _ {J W O E : Type 0} (does : W → Entries → Result O (Failure E) → E
     ),
   )
   updates_so (Err u) unit last (n, few, is) never tells = (
-    refl,
-    refl,
+    (refl, refl, refl),
     inr (u, n, few, is, tells),
   )
 
 module _ {J W O E : Type 0} (does : W → Entries → Result O (Failure E) → Entries → W → Type 0)
-    (stops_at : W → ℕ → Stop → Type 0) (bounds : List Key) (terms : Terms) (again : ℕ) (old : Seats J)
+    (stops_at : W → ℕ → Stop → Type 0) (bounds : List Key) (terms : Terms) (again : ℕ) (place : Place) (old : Seats J)
     (resolves : Known) (goes : SeatGoesOn old.resolves resolves) (before after_it : W)
     (r : Result (Updated O) (NotUpdated E)) (new : ClientState J) where
   abbrev At : Seats J → Type 0
-  At seats = Updates does stops_at bounds (record { seats = seats; terms = terms; again = again }) before r new after_it
+  At seats = Updates does stops_at bounds
+      (record { seats = seats; terms = terms; again = again; place = place }) before r new after_it
 
   -- an update by a client whose second seat had seen more is one by the client before
   pub updates_from : At (record { begins = old.begins; resolves = resolves }) → At old
-  updates_from (same, tries, inl (e, few, over, last, tells, wrote, seats)) = (
+  updates_from (same, inl (e, few, over, last, tells, wrote, seats)) = (
     same,
-    tries,
     inl (
       e,
       few,
@@ -217,9 +215,8 @@ module _ {J W O E : Type 0} (does : W → Entries → Result O (Failure E) → E
       seats,
     ),
   )
-  updates_from (same, tries, inr (u, n, few, is, tells)) = (
+  updates_from (same, inr (u, n, few, is, tells)) = (
     same,
-    tries,
     inr (u, n, few, unended_from does stops_at bounds terms old resolves goes before after_it n u is, tells),
   )
 
@@ -227,18 +224,21 @@ module _ {J W O E : Type 0} (does : W → Entries → Result O (Failure E) → E
     (stops_at : W → ℕ → Stop → Type 0) (bounds : List Key) where
   -- the same, of any client that only saw more
   pub updates_at : (old mid : ClientState J) → mid.seats.begins ≡ old.seats.begins
-      → SeatGoesOn old.seats.resolves mid.seats.resolves → mid.terms ≡ old.terms → mid.again ≡ old.again
+      → SeatGoesOn old.seats.resolves mid.seats.resolves → KeepsTerms old mid
       → (before after_it : W) (r : Result (Updated O) (NotUpdated E)) (new : ClientState J)
       → Updates does stops_at bounds mid before r new after_it → Updates does stops_at bounds old before r new after_it
-  updates_at old mid begins goes terms again before after_it r new up =
-      updates_from does stops_at bounds old.terms old.again old.seats mid.seats.resolves goes before after_it r new
-      (subst (λ (k : Known). Updates does stops_at bounds
-      (record { seats = record { begins = k; resolves = mid.seats.resolves }; terms = old.terms; again = old.again })
-      before r new after_it) begins
-      (subst (λ (t : Terms). Updates does stops_at bounds (record { seats = mid.seats; terms = t; again = old.again })
-      before r new after_it) terms
-      (subst (λ (n : ℕ). Updates does stops_at bounds (record { seats = mid.seats; terms = mid.terms; again = n })
-      before r new after_it) again up)))
+  updates_at old mid begins goes (terms, again, place) before after_it r new up =
+      updates_from does stops_at bounds old.terms old.again old.place old.seats mid.seats.resolves goes before
+      after_it r new
+      (subst (λ (k : Known). By (record { begins = k; resolves = mid.seats.resolves }) old.terms old.again old.place)
+      begins
+      (subst (λ (t : Terms). By mid.seats t old.again old.place) terms
+      (subst (λ (n : ℕ). By mid.seats mid.terms n old.place) again
+      (subst (λ (p : Place). By mid.seats mid.terms mid.again p) place up))))
+    where
+      By : Seats J → Terms → ℕ → Place → Type 0
+      By seats terms again place = Updates does stops_at bounds
+          (record { seats = seats; terms = terms; again = again; place = place }) before r new after_it
 
 -- who only sees what others did goes on
 pub only_sees_goes : (old new : Known) → OnlySees old new → SeatGoesOn old new

@@ -27,12 +27,23 @@ abbrev pub seats_of : {J : Type 0} → Option (Seats J) → Seats J
 seats_of None = record { begins = known 0 0 []; resolves = known 0 0 [] }
 seats_of (Some seats) = seats
 
--- what contracts see of a client: its seats, under which terms it writes, and how often it tries
--- again
+-- which of how many clients it is: those that run have the numbers from 0 on, and the one that
+-- begins and ends has the next
+pub record Place : Type 0 where
+  pub number : ℕ
+  pub clients : ℕ
+
+-- what contracts see of a client: its seats, under which terms it writes, how often it tries again,
+-- and which of the clients it is
 pub record ClientState (J : Type 0) : Type 0 where
   pub seats : Seats J
   pub terms : Terms
   pub again : ℕ
+  pub place : Place
+
+-- it writes under the same terms, tries again as often, and is the same client
+abbrev pub KeepsTerms : {J : Type 0} → ClientState J → ClientState J → Type 0
+KeepsTerms old new = (new.terms ≡ old.terms) × (new.again ≡ old.again) × (new.place ≡ old.place)
 
 -- it is committed, or it wrote nothing and nothing stopped it
 abbrev pub WentWell : {E : Type 0} → Outcome → Option (Failure E) → Type 0
@@ -88,7 +99,7 @@ module _ {J W O E : Type 0} (does : W → Entries → Result O (Failure E) → E
   -- in vain, and no fewer where its work says that it may go on; it tells how that ended, of what
   -- was written where it went well, and has the seats that were handed back.
   abbrev pub Updates : ClientState J → W → Result (Updated O) (NotUpdated E) → ClientState J → W → Type 0
-  Updates old before r new after_it = (new.terms ≡ old.terms) × (new.again ≡ old.again)
+  Updates old before r new after_it = KeepsTerms old new
       × (((e : Ended J O E) × (e.retries ≤ old.again)
       × (over : EndsOver does bounds old.terms old.seats before e.retries e after_it)
       × IsLastTry stops_at old.again e.retries e after_it × TellsEnd e r

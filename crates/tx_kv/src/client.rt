@@ -1,8 +1,9 @@
 //! A client of a store.
-ghost use Rattle.std.specs.Prelude.{◌≡◌, ◌<◌};
+ghost use Rattle.std.specs.Prelude.{◌≡◌, ◌<◌, ◌≤◌};
 ghost use Rattle.tx_kv.specs.Clients.{Updates};
 
 use crate::live::Live;
+use crate::shared::Shared;
 use crate::stats::Tally;
 use crate::updated::{NotUpdated, Updated, told_of};
 use std::alloc::Global;
@@ -13,7 +14,7 @@ use tx_flat::FlatCells;
 use tx_journal::JournalId;
 use tx_store::{Store, Wire};
 use tx_types::{Mode, Ts};
-use tx_update::{Seats, Work, update};
+use tx_update::{Seats, Work, update_watched};
 
 /// How long the locks of a client live, in ticks, where it does not say.
 const TTL: u32 = 1_000;
@@ -31,6 +32,8 @@ pub struct Client<'a, J: JournalId, R: Wait> {
     pub(crate) live: &'a Live,
     pub(crate) tally: &'a Tally,
     pub(crate) number: usize,
+    /// How many there are beside the one that begins and ends.
+    clients: usize,
     /// They are there between two calls.
     pub(crate) seats: Option<Seats<J>>,
     terms: Terms,
@@ -42,14 +45,19 @@ pub struct Client<'a, J: JournalId, R: Wait> {
 }
 
 impl<'a, J: JournalId, R: Wait> Model for Client<'a, J, R> {
-    ghost use Rattle.std.specs.Prelude.{is_some, true, ◌≡◌, ◌<◌};
+    ghost use Rattle.std.specs.Prelude.{is_some, true, ◌≡◌, ◌<◌, ◌≤◌};
     ghost use Rattle.tx_kv.specs.Clients.{ClientState, seats_of};
 
     ghost Value = { ClientState J };
 
-    ghost view = { λ c. record { seats = seats_of c.seats; terms = c.terms; again = c.again } };
+    ghost view = { λ c. record {
+      seats = seats_of c.seats;
+      terms = c.terms;
+      again = c.again;
+      place = record { number = c.number; clients = c.clients };
+    } };
 
-    ghost invariant = { λ c. (is_some c.seats ≡ true) × (c.number < 1024) };
+    ghost invariant = { λ c. (is_some c.seats ≡ true) × (c.number ≤ c.clients) × (c.clients < 1024) };
 }
 
 impl<'a, J: JournalId, R: Wait> Client<'a, J, R> {
@@ -58,14 +66,19 @@ impl<'a, J: JournalId, R: Wait> Client<'a, J, R> {
         rt: &'a R,
         alloc: Global,
         store: &'a Store<J, FlatCells>,
-        shared: (&'a Live, &'a Tally),
+        shared: Shared<'a>,
         number: usize,
         seats: Seats<J>,
     ) -> Client<'a, J, R>
-        requires number { number < 1024 }
-        ensures { result.seats ≡ seats }
+        requires number { (number ≤ shared.clients) × (shared.clients < 1024) }
+        ensures seats { result.seats ≡ seats }
+        ensures place { (result.place.number ≡ number) × (result.place.clients ≡ shared.entry.clients) }
     {
-        let (live, tally) = shared;
+        let Shared {
+            live,
+            tally,
+            clients,
+        } = shared;
         Client {
             rt,
             alloc,
@@ -73,6 +86,7 @@ impl<'a, J: JournalId, R: Wait> Client<'a, J, R> {
             live,
             tally,
             number,
+            clients,
             seats: Some(seats),
             terms: Terms {
                 mode: Mode::Async,
@@ -85,12 +99,22 @@ impl<'a, J: JournalId, R: Wait> Client<'a, J, R> {
         }
     }
 
-    /// Which of the clients it is: below 1,024. Those that run have the numbers from 0 on, in
-    /// order, and the one that begins and ends has the next.
+    /// Which of the clients it is. Those that run have the numbers from 0 on, in order, and the one
+    /// that begins and ends has the next, which is how many run: `clients`. That is below 1,024.
     pub fn number(&self) -> usize
+        ensures is { result ≡ self.now.place.number }
+        ensures upto { result ≤ self.now.place.clients }
         ensures few { result < 1024 }
     {
         self.number
+    }
+
+    /// How many clients run, each on a thread of its own: below 1,024.
+    pub fn clients(&self) -> usize
+        ensures is { result ≡ self.now.place.clients }
+        ensures few { result < 1024 }
+    {
+        self.clients
     }
 
     /// Where it takes memory.
@@ -125,7 +149,7 @@ impl<'a, J: JournalId, R: Wait> Client<'a, J, R> {
     /// ```
     pub fn set_terms(&mut self, terms: Terms, again: u32)
         ensures terms { (self.new.terms ≡ terms) × (self.new.again ≡ again) }
-        ensures seats { self.new.seats ≡ self.old.seats }
+        ensures same { (self.new.seats ≡ self.old.seats) × (self.new.place ≡ self.old.place) }
     {
         self.terms = terms;
         self.again = again;
@@ -151,9 +175,9 @@ impl<'a, J: JournalId, R: Wait> Client<'a, J, R> {
     // Counts an update.
     fn count<O, E>(&self, told: &Result<Updated<O>, NotUpdated<E>>) {
         match told {
-            Ok(updated) => self
-                .tally
-                .updated(updated.commit.is_some(), updated.retries),
+            Ok(updated) => self.tally.updated(updated.commit.is_some()),
+            // No transaction began.
+            Err(NotUpdated::Spent) => (),
             Err(_) => self.tally.refused(),
         }
     }
@@ -167,7 +191,9 @@ impl<'a, J: JournalId, R: Wait> Client<'a, J, R> {
         };
         self.live.enter(self.number, seats.resolves.last());
         let mut wire = Wire::new(self.rt, self.store);
-        let came = update(self.alloc, seats, self.terms, self.again, work, &mut wire);
+        let came = update_watched(
+            self.alloc, seats, self.terms, self.again, work, self.tally, &mut wire,
+        );
         let (told, seats) = told_of(came);
         self.seats = Some(seats);
         self.leave();

@@ -2,6 +2,7 @@
 ghost use Rattle.std.specs.Prelude.{◌≡◌, ◌≤◌, IfOk, IfErr};
 ghost use Rattle.tx_journal.specs.Senders.{IsSender, LosesNothing};
 ghost use Rattle.tx_reader.specs.Readers.{OnlySees};
+ghost use Rattle.tx_kv.specs.Clients.{KeepsTerms};
 ghost use Rattle.tx_kv.specs.Collections.{HasCollected, IsCollectFault};
 
 use crate::client::Client;
@@ -61,7 +62,7 @@ impl<'a, J: JournalId, R: Wait> Client<'a, J, R> {
     pub(crate) fn collect_if_due(&mut self)
         ensures begins { self.new.seats.begins ≡ self.old.seats.begins }
         ensures resolves { OnlySees self.old.seats.resolves self.new.seats.resolves }
-        ensures terms { (self.new.terms ≡ self.old.terms) × (self.new.again ≡ self.old.again) }
+        ensures terms { KeepsTerms self.old self.new }
     {
         if self.every == 0 || self.since < self.every {
             self.since = self.since.saturating_add(1);
@@ -88,7 +89,7 @@ impl<'a, J: JournalId, R: Wait> Client<'a, J, R> {
         ensures err { IfErr result (IsCollectFault self.new.seats.resolves.events) }
         ensures begins { self.new.seats.begins ≡ self.old.seats.begins }
         ensures resolves { OnlySees self.old.seats.resolves self.new.seats.resolves }
-        ensures terms { (self.new.terms ≡ self.old.terms) × (self.new.again ≡ self.old.again) }
+        ensures terms { KeepsTerms self.old self.new }
     {
         let Some(
             Seats {

@@ -24,7 +24,9 @@ pub(crate) struct Live {
 }
 
 // So many places, at which nothing is read.
-fn places(alloc: Global, count: usize) -> Result<Vec<AtomicU64>, Fault> {
+fn places(alloc: Global, count: usize) -> Result<Vec<AtomicU64>, Fault>
+    ensures { IfErr result (λ e. e ≡ Fault.OutOfMemory) }
+{
     let mut places = Vec::new(alloc);
     for _ in 0..count {
         places.push(AtomicU64::new(NOWHERE))?;
@@ -45,7 +47,9 @@ fn least_of(places: &[AtomicU64], upto: u64) -> u64
 
 impl Live {
     /// So many clients, which read nowhere and keep nothing.
-    pub(crate) fn new(alloc: Global, clients: usize) -> Result<Live, Fault> {
+    pub(crate) fn new(alloc: Global, clients: usize) -> Result<Live, Fault>
+        ensures { IfErr result (λ e. e ≡ Fault.OutOfMemory) }
+    {
         let least = places(alloc, clients)?;
         let pins = places(alloc, clients.saturating_mul(PINS))?;
         Ok(Live { least, pins })

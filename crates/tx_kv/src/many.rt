@@ -1,5 +1,5 @@
-//! The values of some keys at a timestamp, and the last of some rows.
-ghost use Rattle.std.specs.Prelude.{◌≡◌, reverse, take, IfOk, IfErr};
+//! The values of some keys at a timestamp.
+ghost use Rattle.std.specs.Prelude.{◌≡◌, IfOk, IfErr};
 ghost use Rattle.tx_machine.specs.Machine.{Sees, table_of};
 ghost use Rattle.tx_core.specs.Histories.{last};
 ghost use Rattle.tx_core.specs.Shadow.{shadow};
@@ -13,17 +13,8 @@ use crate::found::found_in;
 use std::alloc::Global;
 use tx_journal::{JournalId, Reply, Request, Sender};
 use tx_reader::Reader;
-use tx_types::{Key, KeyValue, Value};
+use tx_types::{Key, Value};
 use tx_update::Stop;
-
-/// The last of these rows, so many at most, the last first.
-pub(crate) fn last_of(mut rows: Vec<KeyValue>, limit: u32) -> Vec<KeyValue>
-    ensures { result.items ≡ take limit (reverse rows.items) }
-{
-    rows.reverse();
-    rows.truncate(limit as usize);
-    rows
-}
 
 /// The value of a key.
 pub(crate) fn found_at<J: JournalId, S: Sender<Request<J>, Reply<J>>>(

@@ -1,6 +1,7 @@
 //! A timestamp that a client keeps between its calls.
 ghost use Rattle.std.specs.Prelude.{◌≡◌, Ok, IfOk};
 ghost use Rattle.tx_journal.specs.Known.{HasDrawn};
+ghost use Rattle.tx_kv.specs.Clients.{KeepsTerms};
 
 use crate::client::Client;
 use crate::live::Live;
@@ -57,7 +58,7 @@ impl<'a, J: JournalId, R: Wait> Client<'a, J, R> {
         ensures drawn { IfOk result (λ pin. HasDrawn J.bounds self.old.seats.resolves.seat
             self.old.seats.resolves.events 1 pin.at self.new.seats.resolves.events) }
         ensures begins { self.new.seats.begins ≡ self.old.seats.begins }
-        ensures terms { (self.new.terms ≡ self.old.terms) × (self.new.again ≡ self.old.again) }
+        ensures terms { KeepsTerms self.old self.new }
     {
         let drawn = self.draw_entered();
         let pinned = self.keep(drawn);

@@ -7,6 +7,7 @@ ghost use Rattle.tx_journal.specs.Known.{HasDrawn};
 ghost use Rattle.tx_reader.specs.Readers.{OnlySees};
 ghost use Rattle.tx_update.specs.Ranges.{IsRestOf, end_of_page};
 ghost use Rattle.tx_update.specs.Stops.{NamesKey};
+ghost use Rattle.tx_kv.specs.Clients.{KeepsTerms};
 ghost use Rattle.tx_kv.specs.Views.{IsViewStop, SeesEach, SeesRange};
 
 use crate::client::Client;
@@ -32,7 +33,7 @@ impl<'a, J: JournalId, R: Wait> Client<'a, J, R> {
             self.old.seats.resolves.events 1 at self.new.seats.resolves.events) }
         ensures err { IfErr result (λ e. e ≡ Fault.OracleSpent) }
         ensures begins { self.new.seats.begins ≡ self.old.seats.begins }
-        ensures terms { (self.new.terms ≡ self.old.terms) × (self.new.again ≡ self.old.again) }
+        ensures terms { KeepsTerms self.old self.new }
     {
         let drawn = self.draw_entered();
         self.leave();
@@ -45,7 +46,7 @@ impl<'a, J: JournalId, R: Wait> Client<'a, J, R> {
             self.old.seats.resolves.events 1 at self.new.seats.resolves.events) }
         ensures err { IfErr result (λ e. e ≡ Fault.OracleSpent) }
         ensures begins { self.new.seats.begins ≡ self.old.seats.begins }
-        ensures terms { (self.new.terms ≡ self.old.terms) × (self.new.again ≡ self.old.again) }
+        ensures terms { KeepsTerms self.old self.new }
     {
         let Some(
             Seats {
@@ -70,7 +71,7 @@ impl<'a, J: JournalId, R: Wait> Client<'a, J, R> {
         ensures names { IfErr result (NamesKey key.now) }
         ensures begins { self.new.seats.begins ≡ self.old.seats.begins }
         ensures resolves { OnlySees self.old.seats.resolves self.new.seats.resolves }
-        ensures terms { (self.new.terms ≡ self.old.terms) × (self.new.again ≡ self.old.again) }
+        ensures terms { KeepsTerms self.old self.new }
     {
         let Some(Seats { begins, resolves }) = self.seats.take() else {
             unreachable!()
@@ -91,7 +92,7 @@ impl<'a, J: JournalId, R: Wait> Client<'a, J, R> {
             (IsViewStop self.new.seats.resolves.events (last self.old.seats.resolves.events) at) }
         ensures begins { self.new.seats.begins ≡ self.old.seats.begins }
         ensures resolves { OnlySees self.old.seats.resolves self.new.seats.resolves }
-        ensures terms { (self.new.terms ≡ self.old.terms) × (self.new.again ≡ self.old.again) }
+        ensures terms { KeepsTerms self.old self.new }
     {
         let Some(Seats { begins, resolves }) = self.seats.take() else {
             unreachable!()
@@ -113,7 +114,7 @@ impl<'a, J: JournalId, R: Wait> Client<'a, J, R> {
             (IsViewStop self.new.seats.resolves.events (last self.old.seats.resolves.events) at) }
         ensures begins { self.new.seats.begins ≡ self.old.seats.begins }
         ensures resolves { OnlySees self.old.seats.resolves self.new.seats.resolves }
-        ensures terms { (self.new.terms ≡ self.old.terms) × (self.new.again ≡ self.old.again) }
+        ensures terms { KeepsTerms self.old self.new }
     {
         let Some(Seats { begins, resolves }) = self.seats.take() else {
             unreachable!()
@@ -134,7 +135,7 @@ impl<'a, J: JournalId, R: Wait> Client<'a, J, R> {
             (IsViewStop self.new.seats.resolves.events (last self.old.seats.resolves.events) at) }
         ensures begins { self.new.seats.begins ≡ self.old.seats.begins }
         ensures resolves { OnlySees self.old.seats.resolves self.new.seats.resolves }
-        ensures terms { (self.new.terms ≡ self.old.terms) × (self.new.again ≡ self.old.again) }
+        ensures terms { KeepsTerms self.old self.new }
     {
         let Some(Seats { begins, resolves }) = self.seats.take() else {
             unreachable!()

@@ -1,22 +1,33 @@
 //! What the clients of a store have done so far.
+ghost use Rattle.tx_kv.specs.Counters.{AddsUp};
+
 use crate::client::Client;
 use crate::live::Live;
 use std::sync::Wait;
 use std::sync::atomic::{AtomicU64, Ordering};
 use tx_journal::JournalId;
 use tx_types::Ts;
+use tx_update::{Stop, Watch};
 
 /// What the clients of a store have done so far, all together, as it stands when it is asked for.
 #[derive(Clone, Copy, Debug)]
 pub struct Stats {
+    /// How often a work was done: `commits`, `reads`, `refused` and `retries` together.
+    pub tries: u64,
     /// Updates that were committed.
     pub commits: u64,
     /// Updates that went well and wrote nothing.
     pub reads: u64,
-    /// Updates that did not go well.
+    /// Updates that began a transaction and did not go well.
     pub refused: u64,
-    /// Tries of those that went well, beside the last of each.
+    /// Tries that came to nothing and were made again: `conflicts`, `waits` and `others` together.
     pub retries: u64,
+    /// Those of them that another transaction's commit stopped.
+    pub conflicts: u64,
+    /// Those that a lock stopped whose transaction lives or cannot be asked.
+    pub waits: u64,
+    /// Those that were rolled back, or began below the safe point.
+    pub others: u64,
     /// Collections, and the write records that they dropped.
     pub collections: u64,
     pub dropped: u64,
@@ -31,9 +42,16 @@ pub(crate) struct Tally {
     commits: AtomicU64,
     reads: AtomicU64,
     refused: AtomicU64,
-    retries: AtomicU64,
+    conflicts: AtomicU64,
+    waits: AtomicU64,
+    others: AtomicU64,
     collections: AtomicU64,
     dropped: AtomicU64,
+}
+
+// What a counter has.
+fn read(counter: &AtomicU64) -> u64 {
+    counter.load(Ordering::SeqCst)
 }
 
 impl Tally {
@@ -43,21 +61,22 @@ impl Tally {
             commits: AtomicU64::new(0),
             reads: AtomicU64::new(0),
             refused: AtomicU64::new(0),
-            retries: AtomicU64::new(0),
+            conflicts: AtomicU64::new(0),
+            waits: AtomicU64::new(0),
+            others: AtomicU64::new(0),
             collections: AtomicU64::new(0),
             dropped: AtomicU64::new(0),
         }
     }
 
-    /// An update went well, after so many tries in vain: whether it was committed.
-    pub(crate) fn updated(&self, committed: bool, retries: u32) {
+    /// An update went well: whether it was committed.
+    pub(crate) fn updated(&self, committed: bool) {
         let which = if committed {
             &self.commits
         } else {
             &self.reads
         };
         which.fetch_add(1, Ordering::SeqCst);
-        self.retries.fetch_add(u64::from(retries), Ordering::SeqCst);
     }
 
     /// An update did not go well.
@@ -72,16 +91,45 @@ impl Tally {
     }
 
     // What was counted.
-    fn stats(&self, live: &Live) -> Stats {
+    fn stats(&self, live: &Live) -> Stats
+        ensures { AddsUp result }
+    {
+        let (commits, reads, refused) = (
+            read(&self.commits),
+            read(&self.reads),
+            read(&self.refused),
+        );
+        let (conflicts, waits, others) = (
+            read(&self.conflicts),
+            read(&self.waits),
+            read(&self.others),
+        );
+        let retries = conflicts.saturating_add(waits).saturating_add(others);
+        let ended = commits.saturating_add(reads).saturating_add(refused);
         Stats {
-            commits: self.commits.load(Ordering::SeqCst),
-            reads: self.reads.load(Ordering::SeqCst),
-            refused: self.refused.load(Ordering::SeqCst),
-            retries: self.retries.load(Ordering::SeqCst),
-            collections: self.collections.load(Ordering::SeqCst),
-            dropped: self.dropped.load(Ordering::SeqCst),
+            tries: ended.saturating_add(retries),
+            commits,
+            reads,
+            refused,
+            retries,
+            conflicts,
+            waits,
+            others,
+            collections: read(&self.collections),
+            dropped: read(&self.dropped),
             oldest: live.oldest(),
         }
+    }
+}
+
+impl Watch for Tally {
+    fn stopped(&self, stop: &Stop) {
+        let which = match stop {
+            Stop::Conflict(_) => &self.conflicts,
+            Stop::Waits(..) => &self.waits,
+            _ => &self.others,
+        };
+        which.fetch_add(1, Ordering::SeqCst);
     }
 }
 
@@ -91,7 +139,9 @@ impl<'a, J: JournalId, R: Wait> Client<'a, J, R> {
     /// ```
     /// let stats = client.stats();
     /// ```
-    pub fn stats(&self) -> Stats {
+    pub fn stats(&self) -> Stats
+        ensures { AddsUp result }
+    {
         self.tally.stats(self.live)
     }
 }

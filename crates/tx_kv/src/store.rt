@@ -1,8 +1,9 @@
 //! A store is opened: its regions, their maps, and the seats of its clients.
-ghost use Rattle.std.specs.Prelude.{◌≡◌, ◌+◌, All, IfOk, length, vec_len};
+ghost use Rattle.std.specs.Prelude.{◌≡◌, ◌+◌, ◌-◌, ◌*◌, ◌/◌, ◌<◌, ◌⊎◌, All, IfOk, IfErr, length, vec_len};
 ghost use Rattle.tx_cells.specs.Contents.{nothing_held};
 ghost use Rattle.tx_flat.specs.Flats.{flat_content};
 ghost use Rattle.tx_kv.specs.Bounds.{are_rising};
+ghost use Rattle.tx_kv.specs.Programs.{IsUnopened};
 
 use crate::unopened::Unopened;
 use std::alloc::Global;
@@ -28,43 +29,58 @@ fn are_rising(keys: &[Key]) -> bool
 }
 
 // The keys of these bytes.
-fn keys_of(alloc: Global, bounds: &[&[u8]]) -> Result<Vec<Key>, Fault> {
+fn keys_of(alloc: Global, bounds: &[&[u8]]) -> Result<Vec<Key>, Fault>
+    ensures count { IfOk result (λ keys. vec_len keys ≡ length bounds.now) }
+    ensures err { IfErr result
+        (λ e. ((e ≡ Fault.KeyLength) × (0 < length bounds.now)) ⊎ (e ≡ Fault.OutOfMemory)) }
+{
     let mut keys = Vec::new(alloc);
     for bytes in bounds {
-        keys.push(Key::new(alloc, bytes)?)?;
+        let key = Key::new(alloc, bytes)?;
+        keys.push(key)?;
     }
     Ok(keys)
 }
 
-/// A journal over regions with these keys between them, and with so many seats for sessions; and
-/// the maps of the regions, which hold nothing.
+/// A journal over regions with these keys between them, and with the seats of so many clients and
+/// one more; and the maps of the regions, which hold nothing.
 pub(crate) fn journal(
     alloc: Global,
     bounds: &[&[u8]],
-    sessions: usize,
+    clients: usize,
 ) -> Result<(Opened, Vec<FlatCells>), Unopened>
+    ensures seats { IfOk result (λ r. r.0.seats ≡ length r.0.bounds + 1 + (clients * 2 + 2)) }
+    ensures few { IfOk result (λ r. clients < 1024) }
     ensures count { IfOk result (λ r. vec_len r.1 ≡ length r.0.bounds + 1) }
     ensures empty { IfOk result (λ r. All (λ f. flat_content f ≡ (λ k. nothing_held)) r.1.items) }
+    ensures err { IfErr result (IsUnopened (length bounds.now) clients) }
 {
     let keys = keys_of(alloc, bounds)?;
     if !are_rising(keys.as_slice()) {
         return Err(Unopened::NotRising);
     }
-    if keys.len() >= MAX_SEATS || sessions >= MAX_SEATS - keys.len() {
+    if keys.len() >= MAX_SEATS
+        || clients >= MAX_SEATS
+        || clients * 2 + 2 >= MAX_SEATS - keys.len()
+    {
         return Err(Unopened::TooMany);
     }
     let families = make_families::<FlatCells, Plain>(alloc, &Plain, keys.len() + 1)?;
-    let opened = Opened::new(alloc, keys, sessions)?;
+    let opened = Opened::new(alloc, keys, clients * 2 + 2)?;
     Ok((opened, families))
 }
 
 // The seats by twos.
-fn pairs<J: JournalId>(alloc: Global, mut seats: Vec<Seat<J>>) -> Result<Vec<Seats<J>>, Fault> {
+fn pairs<J: JournalId>(alloc: Global, mut seats: Vec<Seat<J>>) -> Result<Vec<Seats<J>>, Fault>
+    ensures count { IfOk result (λ pairs. vec_len pairs ≡ vec_len seats / 2) }
+    ensures err { IfErr result (λ e. e ≡ Fault.OutOfMemory) }
+{
     let mut pairs = Vec::new(alloc);
-    for _ in 0..seats.len() / 2 {
-        if let (Some(begins), Some(resolves)) = (seats.pop(), seats.pop()) {
-            pairs.push(Seats { begins, resolves })?;
-        }
+    for _pair in 0..seats.len() / 2 {
+        let (Some(begins), Some(resolves)) = (seats.pop(), seats.pop()) else {
+            unreachable!()
+        };
+        pairs.push(Seats { begins, resolves })?;
     }
     Ok(pairs)
 }
@@ -78,6 +94,8 @@ pub(crate) fn store<J: JournalId>(
     requires name { (opened.table ≡ J.table) × (opened.bounds ≡ J.bounds) × (opened.seats ≡ J.seats) }
     requires count { vec_len families ≡ length J.bounds + 1 }
     requires empty { All (λ f. flat_content f ≡ (λ k. nothing_held)) families.items }
+    ensures seats { IfOk result (λ made. vec_len made.1 ≡ (J.seats - (length J.bounds + 1)) / 2) }
+    ensures err { IfErr result (λ e. e ≡ Fault.OutOfMemory) }
 {
     let (store, seats) = Store::<J, FlatCells>::open(alloc, opened, families)?;
     let pairs = pairs(alloc, seats)?;

@@ -18,12 +18,23 @@ pub enum Unopened {
 }
 
 impl<T: Drop> From<AllocFailed<T>> for Unopened {
+    ghost use Rattle.std.specs.Prelude.{◌≡◌};
+    ghost use Rattle.tx_types.specs.declared.fault.Fault.TheVariants.{OutOfMemory};
+    ghost use Rattle.tx_kv.specs.declared.unopened.Unopened.TheVariants.{Refused};
+
+    ghost from_gives = { λ _ why. why ≡ Refused OutOfMemory };
+
     fn from(_: AllocFailed<T>) -> Unopened {
         Unopened::Refused(Fault::OutOfMemory)
     }
 }
 
 impl From<Fault> for Unopened {
+    ghost use Rattle.std.specs.Prelude.{◌≡◌};
+    ghost use Rattle.tx_kv.specs.declared.unopened.Unopened.TheVariants.{Refused};
+
+    ghost from_gives = { λ fault why. why ≡ Refused fault };
+
     fn from(fault: Fault) -> Unopened {
         Unopened::Refused(fault)
     }

@@ -1,21 +1,22 @@
 //! Reads of a client alone, at one timestamp.
-ghost use Rattle.std.specs.Prelude.{◌≡◌, IfOk, IfErr, Some};
+ghost use Rattle.std.specs.Prelude.{◌≡◌, ◌⊎◌, IfOk, IfErr, Some};
 ghost use Rattle.tx_machine.specs.Machine.{Sees, table_of};
 ghost use Rattle.tx_core.specs.Histories.{last};
 ghost use Rattle.tx_core.specs.Shadow.{shadow};
 ghost use Rattle.tx_journal.specs.Known.{HasDrawn};
 ghost use Rattle.tx_reader.specs.Readers.{OnlySees};
-ghost use Rattle.tx_update.specs.Ranges.{IsRestOf, end_of_page};
+ghost use Rattle.tx_types.specs.declared.fault.Fault.TheVariants as fault;
+ghost use Rattle.tx_update.specs.declared.stops.Stop.TheVariants as stop;
+ghost use Rattle.tx_update.specs.Ranges.{IsRestOf, after_prefix, end_of_page};
 ghost use Rattle.tx_update.specs.Stops.{NamesKey};
 ghost use Rattle.tx_kv.specs.Views.{IsViewStop, SeesEach, SeesLast, SeesRange};
 
 use crate::client::Client;
-use crate::many::last_of;
 use std::alloc::Global;
 use std::sync::Wait;
 use tx_journal::JournalId;
 use tx_types::{Fault, Key, KeyValue, Ts, Value};
-use tx_update::{KeyRange, Page, Stop};
+use tx_update::{KeyRange, Page, Stop, last_of};
 
 /// Reads of a client alone, at one timestamp: a view of the store as it was there. It is no
 /// transaction: nothing is written, and nothing is to be ended. As long as it is there, its client
@@ -158,6 +159,26 @@ impl<'v, 'a, J: JournalId, R: Wait> View<'v, 'a, J, R> {
     {
         let rows = self.range(from, to)?;
         Ok(last_of(rows, limit))
+    }
+
+    /// The rows of the keys that begin with these bytes, as `range` has them: those of
+    /// `KeyRange::prefix`. `Refused(KeyLength)` for no or more than 512 bytes; else it stops only
+    /// by what `get` does.
+    ///
+    /// ```
+    /// let items = view.range_prefix(b"item/")?;
+    /// ```
+    pub fn range_prefix(&mut self, bytes: &[u8]) -> Result<Vec<KeyValue>, Stop>
+        ensures finds { IfOk result (λ rows. SeesRange self.new.client.now.seats.resolves.events self.old.at
+            (Some bytes.now) (after_prefix bytes.now) rows.items) }
+        ensures err { IfErr result (λ s. IsViewStop self.new.client.now.seats.resolves.events
+            (last self.old.client.now.seats.resolves.events) self.old.at s ⊎ (s ≡ stop.Refused fault.KeyLength)) }
+        ensures begins { self.new.client.now.seats.begins ≡ self.old.client.now.seats.begins }
+        ensures resolves { OnlySees self.old.client.now.seats.resolves self.new.client.now.seats.resolves }
+        ensures same { (self.new.at ≡ self.old.at) × (self.new.client.ghost_name ≡ self.old.client.ghost_name) }
+    {
+        let range = KeyRange::prefix(self.alloc(), bytes)?;
+        self.client.rows_at(self.at, &range)
     }
 
     /// The first rows of a range, `limit` at most where its end is given, and what is left of it,

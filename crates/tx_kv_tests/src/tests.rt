@@ -1,5 +1,6 @@
 //! A store that is opened, written, and read as it was before.
 mod collection;
+mod counters;
 mod many;
 mod ranges;
 

@@ -6,6 +6,8 @@ pub mod CommitOrder
 pub mod Retries
 -- What a session's reads find.
 pub mod ReadAnswers
+-- What reads of one key and of several find, now and in each run from then on.
+pub mod FoundKeys
 -- What a session's reads are answered.
 pub mod ReadReplies
 -- By what a read stops.

@@ -6,6 +6,7 @@ use Rattle.tx_types.specs.declared.mutation.KeyValue.{KeyValue}
 use Rattle.tx_types.specs.declared.mutation.Mutation.{Mutation}
 use Rattle.tx_types.specs.declared.mutation.Mutation.TheVariants as mutation
 use Rattle.tx_types.specs.Keys.{AreRising, is_scanned}
+use Rattle.tx_plan.specs.declared.body.Body.{Body}
 use Rattle.tx_plan.specs.declared.answer.Answer.{Answer}
 use Rattle.tx_plan.specs.declared.answer.Answer.TheVariants as answer
 use Rattle.tx_machine.specs.Machine.{SeesRows, table_of}
@@ -31,7 +32,8 @@ use Rattle.tx_laws.specs.Told.{Says}
 use Rattle.tx_laws.proofs.LaterReads.{answer_seen}
 use Rattle.tx_laws.proofs.Scanned.{sees_whole}
 use Rattle.tx_laws.specs.Rows.{AreRowsOf}
-use Rattle.tx_update.specs.Reads.{Finds, AnswersRead, AnswersScan, SeesOn, TellsPage}
+use Rattle.tx_update.specs.Reads.{Finds, AnswersRead, AnswersReadOn, AnswersScan, SeesOn, TellsPage}
+use Rattle.tx_update.proofs.ReadReplies.{was_on}
 
 -- what a call came to, a state and a result
 abbrev Came : Type 0
@@ -65,63 +67,67 @@ module _ (bounds : List Key) (h : History) (run : IsWorldRun bounds h) (s : Sess
       (subst (λ a. Says (read_of s key) a key s.start None) (sym was.told) (refl, refl, refl))))
   seen_by entered same a was = tt
 
+-- an answer stays given
+responds_on : (l h : History) → Begins l h → (b : Body) (c : Response) → RespondsSo l b c → RespondsSo h b c
+responds_on l h begins b (Err why) told = tt
+responds_on l h begins b (Ok a) told = was_on l h begins b a told
+
 module _ {S : Type 0} (bounds : List Key) (fits : S → Asked → Type 0) (sends : S → Asked → Reached → S → Type 0)
     (keys_between : S → List Key) (way : IsSender bounds fits sends keys_between) (k new : Known) (a b : S)
-    (s after : SessionState) (key : Key) (r : Answer) where
-  module _ (entered : Option Mutation) (same : (h : History) (found : Option Value) → Finds None h s.start key found
+    (s after : SessionState) (key : Key) (r : Answer) (h : History) (run : IsWorldRun bounds h) where
+  module _ (entered : Option Mutation) (same : (found : Option Value) → Finds None h s.start key found
       → Finds entered h s.start key found) where
-    by_response : (then_known : Known) → IsWorldRun bounds then_known.events → (c : Response)
-        → RespondsSo then_known.events (read_of s key) c
-        → ◌≡◌ {A = Came} (after, Ok r) (after_read s c, c) → AnswersRead entered then_known.events s.start key r
-    by_response then_known run (Err why) told e = absurd (missed_end after s r why e)
-    by_response then_known run (Ok x) told e =
-        subst (AnswersRead entered then_known.events s.start key)
-        (sym (same_end after (after_read s (Ok x)) r x e))
-        (seen_by bounds then_known.events run s key entered (same then_known.events) x told)
+    by_response : (c : Response) → RespondsSo h (read_of s key) c
+        → ◌≡◌ {A = Came} (after, Ok r) (after_read s c, c) → AnswersRead entered h s.start key r
+    by_response (Err why) told e = absurd (missed_end after s r why e)
+    by_response (Ok x) told e =
+        subst (AnswersRead entered h s.start key) (sym (same_end after (after_read s (Ok x)) r x e))
+        (seen_by bounds h run s key entered same x told)
 
-    by_reached : (then_known : Known) (mid : S) (reached : Reached)
+    by_reached : (then_known : Known) → Begins then_known.events h → (mid : S) (reached : Reached)
         → sends a (record { by = k.events; body = read_of s key }) reached mid → Learns bounds k reached then_known
         → ◌≡◌ {A = Came} (after, Ok r) (after_read s (response_of reached), response_of reached)
-        → AnswersRead entered then_known.events s.start key r
-    by_reached then_known mid (Err l) sent learns e = absurd (missed_end after s r miss.Lost e)
-    by_reached then_known mid (Ok g) sent learns e =
-        by_response then_known learns.2.run (response_by g.answer)
+        → AnswersRead entered h s.start key r
+    by_reached then_known begins mid (Err l) sent learns e = absurd (missed_end after s r miss.Lost e)
+    by_reached then_known begins mid (Ok g) sent learns e =
+        by_response (response_by g.answer)
+        (responds_on then_known.events h begins (read_of s key) (response_by g.answer)
         (came_told bounds g (read_of s key) then_known.events learns.4
         (ap (λ (q : Asked). q.body) (way.answers a mid (record { by = k.events; body = read_of s key }) g sent))
-        learns.3) e
+        learns.3)) e
 
-  by_entered : (entered : Option Mutation) → Sends sends bounds k a (get_by s key entered) (after, Ok r) b new
-      → AnswersRead entered new.events s.start key r
-  by_entered (Some (mutation.Put v)) sent = elim sent [
+  by_entered : (entered : Option Mutation) → Begins new.events h
+      → Sends sends bounds k a (get_by s key entered) (after, Ok r) b new
+      → AnswersRead entered h s.start key r
+  by_entered (Some (mutation.Put v)) begins sent = elim sent [
     | inl short ↦ absurd (missed_end after s r miss.Fault short.0)
-    | inr more ↦ subst (AnswersRead (Some (mutation.Put v)) new.events s.start key)
+    | inr more ↦ subst (AnswersRead (Some (mutation.Put v)) h s.start key)
         (sym (same_end after s r (answer.Found v) more.0)) refl
   ]
-  by_entered (Some (mutation.Insert v)) sent = elim sent [
+  by_entered (Some (mutation.Insert v)) begins sent = elim sent [
     | inl short ↦ absurd (missed_end after s r miss.Fault short.0)
-    | inr more ↦ subst (AnswersRead (Some (mutation.Insert v)) new.events s.start key)
+    | inr more ↦ subst (AnswersRead (Some (mutation.Insert v)) h s.start key)
         (sym (same_end after s r (answer.Found v) more.0)) refl
   ]
-  by_entered (Some mutation.Delete) sent =
-      subst (AnswersRead (Some mutation.Delete) new.events s.start key)
-      (sym (same_end after s r answer.Nothing sent.0)) refl
-  by_entered (Some mutation.Lock) sent = elim sent [
+  by_entered (Some mutation.Delete) begins sent =
+      subst (AnswersRead (Some mutation.Delete) h s.start key) (sym (same_end after s r answer.Nothing sent.0)) refl
+  by_entered (Some mutation.Lock) begins sent = elim sent [
     | inl short ↦ absurd (missed_end after s r miss.Fault short.0)
     | inr more ↦ (let (reached, mid, then_known, did, learns, rest) = more in
-        subst (λ (y : Known). AnswersRead (Some mutation.Lock) y.events s.start key r) (sym rest.2)
-        (by_reached (Some mutation.Lock) (λ h found is. is) then_known mid reached did learns rest.0))
+        by_reached (Some mutation.Lock) (λ found is. is) then_known
+        (subst (λ (y : Known). Begins y.events h) rest.2 begins) mid reached did learns rest.0)
   ]
-  by_entered None sent = elim sent [
+  by_entered None begins sent = elim sent [
     | inl short ↦ absurd (missed_end after s r miss.Fault short.0)
     | inr more ↦ (let (reached, mid, then_known, did, learns, rest) = more in
-        subst (λ (y : Known). AnswersRead None y.events s.start key r) (sym rest.2)
-        (by_reached None (λ h found is. is) then_known mid reached did learns rest.0))
+        by_reached None (λ found is. is) then_known (subst (λ (y : Known). Begins y.events h) rest.2 begins) mid
+        reached did learns rest.0)
   ]
 
-  -- what a session's read of a key finds
-  pub get_finds : Sends sends bounds k a (get_walk s key) (after, Ok r) b new
-      → AnswersRead (buffered s.buffer key) new.events s.start key r
-  get_finds sent = by_entered (buffered s.buffer key) sent
+  -- what a session's read of a key finds, in a run that begins with what is known then
+  pub get_finds : Begins new.events h → Sends sends bounds k a (get_walk s key) (after, Ok r) b new
+      → AnswersRead (buffered s.buffer key) h s.start key r
+  get_finds begins sent = by_entered (buffered s.buffer key) begins sent
 
 -- what a session's scan finds
 pub scan_finds : {S : Type 0} (bounds : List Key) (fits : S → Asked → Type 0) (sends : S → Asked → Reached → S → Type 0)
@@ -167,11 +173,14 @@ module _ {S : Type 0} (bounds : List Key) (fits : S → Asked → Type 0) (sends
     (view_is : old ≡ view) (start_is : old.state.start ≡ start) (a b : S) where
   pub if_get_finds : (key : Key) (r : Result Answer Miss)
       → Sends sends bounds old.seat a (get_walk old.state key) (new.state, r) b new.seat
-      → IfOk r (AnswersRead (buffered view.state.buffer key) new.seat.events start key)
-  if_get_finds key (Ok x) sent =
-      subst (λ (s : Seated). AnswersRead (buffered s.state.buffer key) new.seat.events start key x) view_is
-      (subst (λ n. AnswersRead (buffered old.state.buffer key) new.seat.events n key x) start_is
-      (get_finds bounds fits sends keys_between way old.seat new.seat a b old.state new.state key x sent))
+      → IfOk r (AnswersReadOn bounds (buffered view.state.buffer key) new.seat.events start key)
+  if_get_finds key (Ok x) sent = record {
+    later = λ h begins run.
+        subst (λ (s : Seated). AnswersRead (buffered s.state.buffer key) h start key x) view_is
+        (subst (λ n. AnswersRead (buffered old.state.buffer key) h n key x) start_is
+        (get_finds bounds fits sends keys_between way old.seat new.seat a b old.state new.state key x h run begins
+        sent));
+  }
   if_get_finds key (Err why) sent = tt
 
   pub if_scan_finds : AreRising bounds → IsWorldRun bounds new.seat.events → (from to : Key) (limit : ℕ)

@@ -37,7 +37,8 @@ use Rattle.tx_client.specs.Facts.{WasAnswered, RespondsSo}
 use Rattle.tx_client.specs.Learns.{response_by, response_of, Learns}
 use Rattle.tx_client.specs.Walks.{Walk, asks, grows, ends, then_walk, Sends, part_by, part_walk, get_by, get_walk, enough, scan_after, scan_from, scan_walk, greater, lesser}
 use Rattle.tx_client.proofs.Calls.{came_told}
-use Rattle.tx_update.specs.Reads.{IsReadAt, WasAnsweredAt, LosesRead, IsReadMiss, IsGetAnswer, IsScanAnswer, HasSeenStart}
+use Rattle.tx_reader.specs.Readers.{IsReadAt, WasAnsweredAt}
+use Rattle.tx_update.specs.Reads.{LosesRead, IsReadMiss, IsGetAnswer, IsScanAnswer, HasSeenStart}
 use Rattle.tx_update.specs.Updates.{SeatGoesOn}
 use Rattle.tx_update.proofs.CallSequences.{goes_begins, learnt, recorded_begins, sent_goes}
 
@@ -108,7 +109,7 @@ told bounds base g a begins t =
 -- ---- what was answered
 
 -- what was answered stays so
-was_on : (l h : History) → Begins l h → (b : Body) (a : Answer) → WasAnswered l b a → WasAnswered h b a
+pub was_on : (l h : History) → Begins l h → (b : Body) (a : Answer) → WasAnswered l b a → WasAnswered h b a
 was_on l h begins b a was = record {
   by = was.by;
   among = among_on l h begins (Took was.by) was.among;

@@ -1,13 +1,11 @@
 -- What a transaction that is lent finds where it reads.
-use Rattle.std.specs.Prelude.{◌≡◌, ◌<◌, ◌≤◌, ℕ, cond, List, Option, Some, None, Err, IfSome}
+use Rattle.std.specs.Prelude.{◌≡◌, ◌<◌, ◌≤◌, ℕ, cond, List, [], ◌∷◌, reverse, take, Option, Some, None, Err, IfSome}
 use Rattle.tx_types.specs.declared.key.Key.{Key}
 use Rattle.tx_types.specs.declared.value.Value.{Value}
 use Rattle.tx_types.specs.declared.mutation.KeyValue.{KeyValue}
 use Rattle.tx_types.specs.declared.mutation.Mutation.{Mutation}
 use Rattle.tx_types.specs.declared.mutation.Mutation.TheVariants as mutation
 use Rattle.tx_types.specs.Keys.{is_scanned}
-use Rattle.tx_plan.specs.declared.body.Body.{Body}
-use Rattle.tx_plan.specs.declared.body.Body.TheVariants as body
 use Rattle.tx_plan.specs.declared.answer.Answer.{Answer}
 use Rattle.tx_plan.specs.declared.answer.Answer.TheVariants as answer
 use Rattle.tx_machine.specs.Machine.{Sees, SeesRows, table_of}
@@ -21,7 +19,7 @@ use Rattle.tx_transaction.specs.declared.state.Miss.{Miss}
 use Rattle.tx_transaction.specs.declared.state.Miss.TheVariants as miss
 use Rattle.tx_transaction.specs.Buffers.{Entries, buffered, is_known}
 use Rattle.tx_client.specs.Calls.{Seated}
-use Rattle.tx_client.specs.Facts.{WasAnswered}
+use Rattle.tx_reader.specs.Readers.{IsReadAt, WasAnsweredAt}
 use Rattle.tx_laws.specs.Scans.{scan_at}
 use Rattle.tx_laws.specs.Rows.{AreRowsOf}
 use Rattle.tx_update.specs.Ranges.{is_in_range}
@@ -44,20 +42,32 @@ AnswersRead entered h start key (answer.Found v) = Finds entered h start key (So
 AnswersRead entered h start key answer.Nothing = Finds entered h start key None
 AnswersRead entered h start key _ = Unit {0}
 
+-- the same in each world run that begins with what is known
+pub record AnswersReadOn (bounds : List Key) (entered : Option Mutation) (known : History) (start : ℕ) (key : Key)
+    (a : Answer) : Type 0 where
+  pub later : (h : History) → Begins known h → IsWorldRun bounds h → AnswersRead entered h start key a
+
+-- what a read of a key finds, in each such run
+abbrev pub FindsOn : List Key → Option Mutation → History → ℕ → Key → Option Value → Type 0
+FindsOn bounds entered known start key found =
+    (h : History) → Begins known h → IsWorldRun bounds h → Finds entered h start key found
+
+-- the values of some keys, in their order, are each what a read of the key finds
+abbrev pub FindsEach : Entries → History → ℕ → List Key → List (Option Value) → Type 0
+FindsEach entries h start [] [] = Unit {0}
+FindsEach entries h start (k ∷ ks) (found ∷ more) =
+    Finds (buffered entries k) h start k found × FindsEach entries h start ks more
+FindsEach entries h start _ _ = ⊥
+
+-- the same in each world run that begins with what is known
+abbrev pub FindsEachOn : List Key → Entries → History → ℕ → List Key → List (Option Value) → Type 0
+FindsEachOn bounds entries known start keys found =
+    (h : History) → Begins known h → IsWorldRun bounds h → FindsEach entries h start keys found
+
 -- what an answer to a scan finds, where it finds anything
 abbrev pub AnswersScan : History → ℕ → Key → Key → ℕ → Answer → Type 0
 AnswersScan h start from to limit (answer.Rows rows) = FindsRows h start from to limit rows
 AnswersScan h start from to limit _ = Unit {0}
-
--- a request that reads at a timestamp
-abbrev pub IsReadAt : ℕ → Body → Type 0
-IsReadAt at (body.Get b) = b.at ≡ at
-IsReadAt at (body.Scan b) = b.at ≡ at
-IsReadAt at _ = ⊥
-
--- a read at a timestamp was answered so
-abbrev pub WasAnsweredAt : History → ℕ → Answer → Type 0
-WasAnsweredAt h at a = (b : Body) × IsReadAt at b × WasAnswered h b a
 
 -- a way to the regions may lose a read at a timestamp, or its reply
 abbrev pub LosesRead : {S : Type 0} → (S → Asked → Reached → S → Type 0) → ℕ → Type 0
@@ -106,6 +116,11 @@ HasSeenStart s = s.state.start ≤ last s.seat.events
 abbrev pub FindsRange : Entries → History → ℕ → Option Key → Option Key → List KeyValue → Type 0
 FindsRange entries h start from to rows =
     AreRowsOf (is_in_range from to) (λ k found. Finds (buffered entries k) h start k found) rows
+
+-- the last of these rows, so many at most, told from the end
+abbrev pub FindsLast : Entries → History → ℕ → Option Key → Option Key → ℕ → List KeyValue → Type 0
+FindsLast entries h start from to limit rows =
+    (all : List KeyValue) × FindsRange entries h start from to all × (rows ≡ take limit (reverse all))
 
 -- what the one-step machine sees at a key at the start, where no put, insert or delete of the key
 -- lies over it

@@ -9,7 +9,7 @@ use Rattle.tx_core.specs.Histories.{History}
 use Rattle.tx_transaction.specs.declared.state.Miss.{Miss}
 use Rattle.tx_transaction.specs.declared.state.Miss.TheVariants as miss
 use Rattle.tx_client.specs.declared.resolved.WaitCause.TheVariants as wait
-use Rattle.tx_update.specs.Reads.{WasAnsweredAt}
+use Rattle.tx_reader.specs.Readers.{WasAnsweredAt}
 use Rattle.tx_update.specs.declared.stops.Stop.{Stop}
 use Rattle.tx_update.specs.declared.stops.Stop.TheVariants as stop
 

@@ -11,9 +11,9 @@ ghost use Rattle.tx_update.specs.Endings.{EndsOver, IsUnended};
 
 use crate::ended::{Ended, Seats, Unended, finished};
 use crate::failure::{Failure, failed_by};
+use crate::lent::Lent;
 use crate::session::{Begun, Running};
 use crate::stops::Stop;
-use crate::tx::Lent;
 use crate::updates::Work;
 use std::alloc::Global;
 use std::marker::Brand;

@@ -7,10 +7,10 @@ ghost use Rattle.tx_update.specs.Ranges.{IsRestOf, end_of_page, is_in_range};
 ghost use Rattle.tx_update.specs.Reads.{Beneath, FindsRange, LosesRead};
 ghost use Rattle.tx_update.specs.Stops.{IsReadStop};
 
+use crate::lent::Lent;
 use crate::rows::{KeyRange, Page, greatest};
 use crate::session::Begun;
 use crate::stops::Stop;
-use crate::tx::Lent;
 use tx_journal::{JournalId, Reply, Request, Sender};
 use tx_types::{Key, KeyValue};
 

@@ -7,10 +7,10 @@ ghost use Rattle.tx_update.specs.Ranges.{IsSplit, is_in_range, row_of};
 ghost use Rattle.tx_update.specs.Reads.{Beneath, FindsRange, LosesRead, SeesOn};
 ghost use Rattle.tx_update.specs.Stops.{IsReadStop};
 
+use crate::lent::Lent;
 use crate::rows::{KeyRange, enter_over, greatest};
 use crate::session::Begun;
 use crate::stops::Stop;
-use crate::tx::Lent;
 use tx_journal::{JournalId, Reply, Request, Sender};
 use tx_types::limits::MAX_SCAN_ROWS;
 use tx_types::{Fault, Key, KeyValue, KeyValues, Value};

@@ -1,5 +1,5 @@
 //! Rows in the order of their keys, and what is entered over them.
-ghost use Rattle.std.specs.Prelude.{◌≡◌, ◌⊎◌, ◌≤◌, length, Some, option_map, OnOk, IfOk, IfErr, bytes_eq, IsTrue};
+ghost use Rattle.std.specs.Prelude.{◌≡◌, ◌⊎◌, ◌≤◌, length, reverse, take, Some, option_map, OnOk, IfOk, IfErr, bytes_eq, IsTrue};
 ghost use Rattle.std.specs.List.{prefix_len, list_any};
 ghost use Rattle.tx_types.specs.declared.key.Key.{Key as Name};
 ghost use Rattle.tx_types.specs.declared.value.Value.{Value as Given};
@@ -97,6 +97,15 @@ fn after_prefix(alloc: Global, bytes: &[u8]) -> Result<Option<Vec<u8>>, Fault>
     let mut more = Vec::new(alloc);
     more.push(*first + 1)?;
     Ok(Some(more))
+}
+
+/// The last of these rows, so many at most, the last first.
+pub fn last_of(mut rows: Vec<KeyValue>, limit: u32) -> Vec<KeyValue>
+    ensures { result.items ≡ take limit (reverse rows.items) }
+{
+    rows.reverse();
+    rows.truncate(limit as usize);
+    rows
 }
 
 /// The greatest key.

@@ -10,7 +10,7 @@ ghost use Rattle.tx_core.specs.Worlds.{IsWorldRun};
 ghost use Rattle.tx_transaction.specs.Buffers.{changes_of};
 ghost use Rattle.tx_journal.specs.Senders.{IsSender};
 ghost use Rattle.tx_update.specs.declared.stops.Stop.TheVariants as stop;
-ghost use Rattle.tx_update.specs.Reads.{AnswersRead, AnswersScan, TellsPage, IsGetAnswer, IsScanAnswer, IsReadMiss, LosesRead, HasSeenStart};
+ghost use Rattle.tx_update.specs.Reads.{AnswersReadOn, AnswersScan, TellsPage, IsGetAnswer, IsScanAnswer, IsReadMiss, LosesRead, HasSeenStart};
 ghost use Rattle.tx_update.specs.Updates.{HasOutcome, Follows, SeatGoesOn};
 
 use crate::met_lock::clear_met;
@@ -147,8 +147,8 @@ impl<'a, J: JournalId, S: Sender<Request<J>, Reply<J>>, B: Begun> Running<'a, J,
     pub(crate) fn get(&mut self, key: &Key) -> Result<Answer, Miss>
         ensures same { self.new.state.buffer ≡ self.old.state.buffer }
         ensures more { Begins self.old.seat.events self.new.seat.events }
-        ensures reads { IfOk result (AnswersRead (buffered self.old.state.buffer key.now) self.new.seat.events
-            B.session.state.start key.now) }
+        ensures reads { IfOk result (AnswersReadOn J.bounds (buffered self.old.state.buffer key.now)
+            self.new.seat.events B.session.state.start key.now) }
         ensures may { HasSeenStart B.session
             → IfOk result (IsGetAnswer self.new.seat.events B.session.state.start key.now) }
         ensures misses { HasSeenStart B.session

@@ -1,25 +1,9 @@
 //! What an update reads and writes within its transaction.
-ghost use Rattle.std.specs.Prelude.{◌≡◌, ℕ, false, Option, option_map, Ok, IfOk, IfErr, IfSome};
-ghost use Rattle.tx_types.specs.declared.key.Key.{Key};
-ghost use Rattle.tx_types.specs.declared.mutation.Mutation.{Mutation};
-ghost use Rattle.tx_plan.specs.declared.answer.Answer.TheVariants.{Rows};
-ghost use Rattle.tx_types.specs.Keys.{is_scanned};
-ghost use Rattle.tx_core.specs.Histories.{History, Begins};
-ghost use Rattle.tx_transaction.specs.Buffers.{buffered};
-ghost use Rattle.tx_transaction.specs.Sessions.{is_declared};
-ghost use Rattle.tx_laws.specs.Rows.{AreRowsOf};
-ghost use Rattle.tx_update.specs.Reads.{Finds, FindsRows, AnswersRead, AnswersScan, SeesOn, TellsPage, TellsLock, IsGetAnswer, IsScanAnswer, IsReadMiss, LosesRead, HasSeenStart};
-ghost use Rattle.tx_update.specs.Stops.{IsReadStop, NamesKey};
 
-use crate::rows::{KeyRange, Page};
-use crate::session::{Begun, Running};
-use crate::stops::{Stop, stop_by};
+use crate::rows::{KeyRange, Page, last_of};
+use crate::stops::Stop;
 use std::alloc::Global;
-use tx_client::{Miss, Status, WaitCause};
-use tx_core::Answer;
-use tx_journal::{JournalId, Reply, Request, Sender};
-use tx_types::limits::MAX_SCAN_ROWS;
-use tx_types::{Key, KeyValue, KeyValues, Ts, Value};
+use tx_types::{Key, KeyValue, Ts, Value};
 
 /// A transaction that declares nothing yet, as it is lent to an update: it reads at its start, and
 /// enters changes into its buffer, which nobody else sees. A lock in the way of a read is resolved,
@@ -37,9 +21,10 @@ pub trait Tx {
     ghost use Rattle.tx_types.specs.declared.mutation.Mutation.TheVariants as mutation;
     ghost use Rattle.tx_core.specs.Histories.{History, Begins};
     ghost use Rattle.tx_transaction.specs.Buffers.{Entries, touched, put_over, inserted, locked, buffered, is_full};
+    ghost use Rattle.tx_types.specs.declared.fault.Fault.TheVariants as fault;
     ghost use Rattle.tx_update.specs.declared.stops.Stop.TheVariants as stop;
-    ghost use Rattle.tx_update.specs.Ranges.{IsRestOf, end_of_page};
-    ghost use Rattle.tx_update.specs.Reads.{Finds, FindsRows, FindsRange};
+    ghost use Rattle.tx_update.specs.Ranges.{IsRestOf, after_prefix, end_of_page};
+    ghost use Rattle.tx_update.specs.Reads.{Finds, FindsEach, FindsRows, FindsRange, FindsLast};
     ghost use Rattle.tx_update.specs.Stops.{IsReadStop, IsEntryStop, NamesKey};
 
     /// What is entered so far.
@@ -76,6 +61,19 @@ pub trait Tx {
         ensures err { IfErr result (IsReadStop loses (seen self.new) (begins self.old)) }
         ensures names { IfErr result (NamesKey key.now) };
 
+    /// The values of some keys, in their order: of each what `get` finds of it. It stops only by
+    /// what `get` does, and then there are none.
+    ///
+    /// ```
+    /// let found = tx.get_many(keys.as_slice())?;
+    /// ```
+    fn get_many(&mut self, keys: &[Key]) -> Result<Vec<Option<Value>>, Stop>
+        ensures same { (buffer self.new ≡ buffer self.old) × (begins self.new ≡ begins self.old) }
+        ensures more { Begins (seen self.old) (seen self.new) }
+        ensures finds { IfOk result
+            (λ found. FindsEach (buffer self.old) (seen self.new) (begins self.old) keys.now found.items) }
+        ensures err { IfErr result (IsReadStop loses (seen self.new) (begins self.old)) };
+
     /// The first `limit` keys with a value at the start, from `from` up to but not including `to`;
     /// what was entered is not looked at. It stops only by what `get` does.
     fn scan(&mut self, from: &Key, to: &Key, limit: u32) -> Result<Vec<KeyValue>, Stop>
@@ -95,6 +93,44 @@ pub trait Tx {
         ensures finds { IfOk result
             (λ rows. FindsRange (buffer self.old) (seen self.new) (begins self.old) from to rows.items) }
         ensures err { IfErr result (IsReadStop loses (seen self.new) (begins self.old)) };
+
+    /// The last `limit` rows of a range, told from its end: the last ones that `range` has, the
+    /// last of them first. It asks for the whole range, and costs what that does. It stops only by
+    /// what `get` does.
+    ///
+    /// ```
+    /// let newest = tx.range_back(None, None, 2)?;
+    /// ```
+    fn range_back(
+        &mut self,
+        from: Option<Key>,
+        to: Option<Key>,
+        limit: u32,
+    ) -> Result<Vec<KeyValue>, Stop>
+        ensures same { (buffer self.new ≡ buffer self.old) × (begins self.new ≡ begins self.old) }
+        ensures more { Begins (seen self.old) (seen self.new) }
+        ensures finds { IfOk result
+            (λ rows. FindsLast (buffer self.old) (seen self.new) (begins self.old) from to limit rows.items) }
+        ensures err { IfErr result (IsReadStop loses (seen self.new) (begins self.old)) }
+    {
+        let rows = self.range(from, to)?;
+        Ok(last_of(rows, limit))
+    }
+
+    /// The rows of the keys that begin with these bytes, as `range` has them: those of
+    /// `KeyRange::prefix`. `Refused(KeyLength)` for no or more than 512 bytes; else it stops only
+    /// by what `get` does.
+    ///
+    /// ```
+    /// let items = tx.range_prefix(b"k\x00")?.len();
+    /// ```
+    fn range_prefix(&mut self, bytes: &[u8]) -> Result<Vec<KeyValue>, Stop>
+        ensures same { (buffer self.new ≡ buffer self.old) × (begins self.new ≡ begins self.old) }
+        ensures more { Begins (seen self.old) (seen self.new) }
+        ensures finds { IfOk result (λ rows. FindsRange (buffer self.old) (seen self.new) (begins self.old)
+            (Some bytes.now) (after_prefix bytes.now) rows.items) }
+        ensures err { IfErr result (λ s. IsReadStop loses (seen self.new) (begins self.old) s
+            ⊎ (s ≡ stop.Refused fault.KeyLength)) };
 
     /// The first rows of a range, and what is left of it: about `limit` of them, since it asks for
     /// no more, and what was entered lies over what it is told, as in `range`. Page by page, each
@@ -149,211 +185,4 @@ pub trait Tx {
         ensures seen { seen self.new ≡ seen self.old }
         ensures err { IfErr result (IsEntryStop (is_full (buffer self.old) key)) }
         ensures start { begins self.new ≡ begins self.old };
-}
-
-/// A running session that declares nothing yet.
-#[derive(Drop)]
-pub(crate) struct Lent<'a, J: JournalId, S: Sender<Request<J>, Reply<J>>, B: Begun> {
-    pub(crate) running: Running<'a, J, S, B>,
-    ghost open: { is_declared B.session.state ≡ false },
-    ghost drawn: { HasSeenStart B.session },
-}
-
-// The value that a read of a key found.
-fn value_in(key: &Key, answer: Answer) -> Result<Option<Value>, Stop>
-    ensures finds { IfOk result (λ found. (entered : Option Mutation) (h : History) (start : ℕ) (k : Key)
-        → AnswersRead entered h start k answer → Finds entered h start k found) }
-    ensures err { IfErr result (λ s. (h : History) (start : ℕ) → IsGetAnswer h start key.now answer
-        → IsReadStop (λ _. ⊥) h start s) }
-    ensures names { IfErr result (NamesKey key.now) }
-{
-    match answer {
-        Answer::Found(value) => Ok(Some(value)),
-        Answer::Nothing => Ok(None),
-        Answer::KeyIsLocked(_) => Err(Stop::Waits(key.clone()?, WaitCause::Live)),
-        refusal => Err(stop_by(refusal)),
-    }
-}
-
-// The rows that a scan found.
-fn rows_in(answer: Answer) -> Result<KeyValues, Stop>
-    ensures rows { IfOk result (λ rows. answer ≡ Rows rows) }
-    ensures err { IfErr result (λ s. (h : History) (start : ℕ) → IsScanAnswer h start answer
-        → IsReadStop (λ _. ⊥) h start s) }
-{
-    match answer {
-        Answer::Rows(rows) => Ok(rows),
-        refusal => Err(stop_by(refusal)),
-    }
-}
-
-impl<'a, J: JournalId, S: Sender<Request<J>, Reply<J>>, B: Begun> Lent<'a, J, S, B> {
-    /// Lends what sets out here.
-    pub(crate) fn new(running: Running<'a, J, S, B>) -> Lent<'a, J, S, B>
-        requires open { is_declared B.session.state ≡ false }
-        requires drawn { HasSeenStart B.session }
-        ensures { result.running ≡ running.entry }
-    {
-        Lent { running }
-    }
-
-    /// What runs.
-    pub(crate) fn into_running(self) -> Running<'a, J, S, B>
-        ensures { result ≡ self.entry.running }
-    {
-        let Lent { running } = self;
-        running
-    }
-
-    // What a read answered, of this key where one is named; none where a lock was in its way that
-    // it may pass by now.
-    fn passed(
-        &mut self,
-        response: Result<Answer, Miss>,
-        named: Option<&Key>,
-    ) -> Result<Option<Answer>, Stop>
-        ensures same { self.new.running.state.buffer ≡ self.old.running.state.buffer }
-        ensures more { Begins self.old.running.seat.events self.new.running.seat.events }
-        ensures answers { IfOk result
-            (λ found. IfSome found (λ a. (response ≡ Ok a) × (self.new.running ≡ self.old.running))) }
-        ensures err { IfOk response (TellsLock self.old.running.seat.events B.session.state.start
-            (option_map (λ k. k.now) named.entry))
-            → IfErr response (IsReadMiss (LosesRead S.sends) B.session.state.start)
-            → IfErr result (IsReadStop (LosesRead S.sends) self.new.running.seat.events B.session.state.start) }
-        ensures names { IfErr result (λ s. IfSome (option_map (λ k. k.now) named.entry) (λ k. NamesKey k s)) }
-    {
-        match response? {
-            Answer::KeyIsLocked(info) => match self.running.clear()? {
-                Status::Waiting(why) => {
-                    let key = named.unwrap_or(&info.facts().key);
-                    Err(Stop::Waits(key.clone()?, why))
-                }
-                _ => Ok(None),
-            },
-            answer => Ok(Some(answer)),
-        }
-    }
-
-    // Reads a key, once.
-    fn look(&mut self, key: &Key) -> Result<Option<Answer>, Stop>
-        ensures same { self.new.running.state.buffer ≡ self.old.running.state.buffer }
-        ensures more { Begins self.old.running.seat.events self.new.running.seat.events }
-        ensures reads { IfOk result (λ found. IfSome found (AnswersRead (buffered self.old.running.state.buffer key.now)
-            self.new.running.seat.events B.session.state.start key.now)) }
-        ensures may { IfOk result (λ found. IfSome found
-            (IsGetAnswer self.new.running.seat.events B.session.state.start key.now)) }
-        ensures err { IfErr result (IsReadStop (LosesRead S.sends) self.new.running.seat.events B.session.state.start) }
-        ensures names { IfErr result (NamesKey key.now) }
-    {
-        let response = self.running.get(key);
-        self.passed(response, Some(key))
-    }
-
-    // Reads a range, once.
-    fn look_over(&mut self, from: &Key, to: &Key, limit: u32) -> Result<Option<Answer>, Stop>
-        ensures same { self.new.running.state.buffer ≡ self.old.running.state.buffer }
-        ensures more { Begins self.old.running.seat.events self.new.running.seat.events }
-        ensures reads { IfOk result (λ found. IfSome found
-            (AnswersScan self.new.running.seat.events B.session.state.start from.now to.now limit)) }
-        ensures tells { IfOk result (λ found. IfSome found
-            (TellsPage J.bounds self.new.running.seat.events B.session.state.start from.now to.now limit)) }
-        ensures may { IfOk result (λ found. IfSome found
-            (IsScanAnswer self.new.running.seat.events B.session.state.start)) }
-        ensures err { IfErr result (IsReadStop (LosesRead S.sends) self.new.running.seat.events B.session.state.start) }
-    {
-        let response = self.running.scan(from, to, limit);
-        self.passed(response, None)
-    }
-
-    /// The value of a key at the start, or what was entered of it. Locks in its way are resolved.
-    pub(crate) fn find(&mut self, key: &Key) -> Result<Option<Value>, Stop>
-        ensures same { self.new.running.state.buffer ≡ self.old.running.state.buffer }
-        ensures more { Begins self.old.running.seat.events self.new.running.seat.events }
-        ensures finds { IfOk result (λ found. Finds (buffered self.old.running.state.buffer key.now)
-            self.new.running.seat.events B.session.state.start key.now found) }
-        ensures err { IfErr result (IsReadStop (LosesRead S.sends) self.new.running.seat.events B.session.state.start) }
-        ensures names { IfErr result (NamesKey key.now) }
-    {
-        for _ in 0..MAX_SCAN_ROWS {
-            if let Some(answer) = self.look(key)? {
-                return value_in(key, answer);
-            }
-        }
-        let answer = self.running.get(key)?;
-        value_in(key, answer)
-    }
-
-    /// The first rows of a range at the start. Locks in its way are resolved.
-    pub(crate) fn look_for(&mut self, from: &Key, to: &Key, limit: u32) -> Result<KeyValues, Stop>
-        ensures same { self.new.running.state.buffer ≡ self.old.running.state.buffer }
-        ensures more { Begins self.old.running.seat.events self.new.running.seat.events }
-        ensures finds { IfOk result
-            (λ rows. FindsRows self.new.running.seat.events B.session.state.start from.now to.now limit rows) }
-        ensures tells { IfOk result (λ rows. AreRowsOf (is_scanned from.now to.now limit rows)
-            (SeesOn J.bounds self.new.running.seat.events B.session.state.start) rows) }
-        ensures err { IfErr result (IsReadStop (LosesRead S.sends) self.new.running.seat.events B.session.state.start) }
-    {
-        for _ in 0..MAX_SCAN_ROWS {
-            if let Some(answer) = self.look_over(from, to, limit)? {
-                return rows_in(answer);
-            }
-        }
-        let answer = self.running.scan(from, to, limit)?;
-        rows_in(answer)
-    }
-}
-
-impl<'a, J: JournalId, S: Sender<Request<J>, Reply<J>>, B: Begun> Tx for Lent<'a, J, S, B> {
-    ghost buffer = { λ t. t.running.state.buffer };
-
-    ghost begins = { λ t. B.session.state.start };
-
-    ghost seen = { λ t. t.running.seat.events };
-
-    ghost loses = { LosesRead S.sends };
-
-    fn alloc(&self) -> Global {
-        self.running.alloc()
-    }
-
-    fn start(&self) -> Ts {
-        self.running.start()
-    }
-
-    fn get(&mut self, key: &Key) -> Result<Option<Value>, Stop> {
-        self.find(key)
-    }
-
-    fn scan(&mut self, from: &Key, to: &Key, limit: u32) -> Result<Vec<KeyValue>, Stop> {
-        Ok(self.look_for(from, to, limit)?.into_vec())
-    }
-
-    fn range(&mut self, from: Option<Key>, to: Option<Key>) -> Result<Vec<KeyValue>, Stop> {
-        let range = KeyRange::new(self.running.alloc(), from, to)?;
-        let rows = self.rows_in(&range)?;
-        self.with_entered(rows, &range)
-    }
-
-    fn page(&mut self, range: KeyRange, limit: u32) -> Result<Page, Stop> {
-        self.page_of(range, limit)
-    }
-
-    fn put(&mut self, key: Key, value: Value) -> Result<(), Stop> {
-        Ok(self.running.put(key, value)?)
-    }
-
-    fn insert(&mut self, key: Key, value: Value) -> Result<(), Stop> {
-        if !self.running.can_insert(&key) {
-            return Err(Stop::AlreadyExists(key));
-        }
-        Ok(self.running.insert(key, value)?)
-    }
-
-    fn delete(&mut self, key: Key) -> Result<(), Stop> {
-        Ok(self.running.delete(key)?)
-    }
-
-    fn lock(&mut self, key: Key) -> Result<(), Stop> {
-        Ok(self.running.lock(key)?)
-    }
 }

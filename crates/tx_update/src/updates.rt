@@ -68,6 +68,29 @@ pub trait Work {
     }
 }
 
+/// Who is told of each try that came to nothing and is made again.
+pub trait Watch {
+    /// This stopped a try, and another is made.
+    fn stopped(&self, stop: &Stop);
+}
+
+/// Nobody is told.
+#[derive(Drop)]
+struct Nobody;
+
+impl Watch for Nobody {
+    fn stopped(&self, stop: &Stop) {
+        let _ = stop;
+    }
+}
+
+// Tells of a try that came to nothing.
+fn tell<E, T: Watch>(watch: &T, last: &Option<Failure<E>>) {
+    if let Some(Failure::Stopped(stop)) = last {
+        watch.stopped(stop);
+    }
+}
+
 /// How many times at most a thread lets others run between two tries: 2 to the power of this.
 const REST: u32 = 12;
 
@@ -106,10 +129,30 @@ fn says_on<W: Work>(work: &W, tries: u32, last: &Option<Failure<W::Err>>) -> boo
 /// most 1,024 keys, of an async transaction 256; it stops as `Refused` beyond.
 pub fn update<J: JournalId, S: Sender<Request<J>, Reply<J>>, W: Work>(
     alloc: Global,
+    seats: Seats<J>,
+    terms: Terms,
+    again: u32,
+    work: &mut W,
+    sender: &mut S,
+) -> Result<Ended<J, W::Out, W::Err>, Unended<J, W::Err>>
+    requires way { IsSender J.bounds S.fits S.sends S.keys_between }
+    ensures ended { IfOk result (λ e. (e.retries ≤ again)
+        × EndsOver W.does J.bounds terms seats work.old e.retries e work.new) }
+    ensures last { IfOk result (λ e. IsLastTry W.stops_at again e.retries e work.new) }
+    ensures unended { IfErr result
+        (λ u. (n : ℕ) × (n ≤ again) × IsUnended W.does J.bounds terms seats work.old n u work.new) }
+{
+    update_watched(alloc, seats, terms, again, work, &Nobody, sender)
+}
+
+/// The same, of which one is told who counts the tries that came to nothing.
+pub fn update_watched<J: JournalId, S: Sender<Request<J>, Reply<J>>, W: Work, T: Watch>(
+    alloc: Global,
     mut seats: Seats<J>,
     terms: Terms,
     again: u32,
     work: &mut W,
+    watch: &T,
     sender: &mut S,
 ) -> Result<Ended<J, W::Out, W::Err>, Unended<J, W::Err>>
     requires way { IsSender J.bounds S.fits S.sends S.keys_between }
@@ -129,6 +172,7 @@ pub fn update<J: JournalId, S: Sender<Request<J>, Reply<J>>, W: Work>(
                 if !says_on(work, tries + 1, &ended.stop) {
                     return Ok(ended);
                 }
+                tell(watch, &ended.stop);
                 seats = ended.into_seats();
                 rest(tries);
             }

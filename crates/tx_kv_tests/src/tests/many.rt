@@ -3,7 +3,8 @@ use crate::tests::ranges::{Fill, key_of, put};
 use std::sync::Wait;
 use std::test::Fail;
 use tx_kv::{
-    Client, Failure, JournalId, Key, KeyValue, Mode, Program, Stop, Terms, Tx, Work, with_store,
+    Client, Failure, Fault, JournalId, Key, KeyValue, Mode, Program, Stop, Terms, Tx, Work,
+    with_store,
 };
 
 // The numbers of these rows, as their keys say.
@@ -32,6 +33,34 @@ impl Work for Change {
     }
 }
 
+/// Deletes row 5, puts 1,501, and reads several keys, the last rows and those of a prefix: whether
+/// what was entered lies over them.
+#[derive(Drop)]
+struct Ask;
+
+impl Work for Ask {
+    type Out = bool;
+
+    type Err = ();
+
+    fn apply<T: Tx>(&mut self, tx: &mut T) -> Result<bool, Failure<()>> {
+        tx.delete(key_of(tx, 5)?)?;
+        put(tx, 1_501)?;
+        let mut keys = Vec::new(tx.alloc());
+        for n in [5, 3, 1_501, 4] {
+            keys.push(key_of(tx, n)?)?;
+        }
+        let found = tx.get_many(keys.as_slice())?;
+        let newest = tx.range_back(None, None, 2)?;
+        let items = tx.range_prefix(b"k\x00")?.len();
+        let none = tx.range_prefix(b"");
+        let several = matches!(found.as_slice(), [None, None, Some(_), Some(_)]);
+        let last = newest.len() == 2 && numbers(newest.as_slice()) == [1_501, 1_500, 0];
+        let refused = matches!(none, Err(Stop::Refused(Fault::KeyLength)));
+        Ok(several && last && items == 254 && refused)
+    }
+}
+
 // Whether a client finds several keys, and the last rows.
 fn seen<J: JournalId, R: Wait>(client: &mut Client<'_, J, R>) -> Result<bool, Stop> {
     let mut keys = Vec::new(client.alloc());
@@ -46,10 +75,11 @@ fn seen<J: JournalId, R: Wait>(client: &mut Client<'_, J, R>) -> Result<bool, St
     let to = Key::new(view.alloc(), &[b'k', 2, 87])?;
     let few = view.range_back(Some(from), Some(to), 9)?;
     let none = view.range_back(None, None, 0)?;
+    let items = view.range_prefix(b"k\x02")?.len();
     let several = matches!(found.as_slice(), [None, Some(_)]) && nothing.is_empty();
     let last = newest.len() == 2 && numbers(newest.as_slice()) == [1_500, 599, 0];
     let part = few.len() == 3 && numbers(few.as_slice()) == [598, 597, 596];
-    Ok(several && last && part && none.is_empty())
+    Ok(several && last && part && none.is_empty() && items == 88)
 }
 
 #[derive(Drop)]
@@ -73,7 +103,10 @@ impl<R: Wait> Program<R> for Story {
         client.set_terms(terms, 0);
         drop(client.update(&mut Fill(0)).ok()?);
         drop(client.update(&mut Change).ok()?);
-        seen(client).ok()
+        if !seen(client).ok()? {
+            return Some(false);
+        }
+        Some(client.update(&mut Ask).ok()?.value)
     }
 }
 
