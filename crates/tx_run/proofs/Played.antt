@@ -21,7 +21,7 @@ use Rattle.tx_steps.specs.Lines.{data_said}
 use Rattle.tx_evidence.specs.Lines.{step_by}
 use Rattle.tx_transfer.specs.Sources.{HasLine}
 use Rattle.tx_workload.specs.Steps.{Says, SaysStep, step_at}
-use Rattle.tx_run.specs.Played.{Standing, Where, at, moving, away, free, live, begins, Makes, PlaysOne, Turns, LinePlays, Plays}
+use Rattle.tx_run.specs.Played.{Standing, Where, at, moving, away, free, live, begins, stays, Makes, PlaysOne, Turns, LinePlays, Plays}
 
 module _ (bounds : List Key) (source : Option (List ℕ)) where
   -- one more line is played
@@ -44,43 +44,44 @@ module _ (bounds : List Key) (source : Option (List ℕ)) where
 
 -- what a live session makes of a step, where it stays live, is the turn of a line
 pub turns_live : (bounds : List Key) (what : Step Text) (s t : Seated) (answer : Result PlainReply Cause)
-    → Makes bounds what s (said_of answer) t → Turns bounds what (live s) (Plain answer) (live t)
-turns_live bounds (step.Begin name) s t (Ok p) makes = makes
-turns_live bounds (step.Begin name) s t (Err c) makes = makes
-turns_live bounds (step.Act name (op.Put k v)) s t (Ok p) makes = makes
-turns_live bounds (step.Act name (op.Put k v)) s t (Err c) makes = makes
-turns_live bounds (step.Act name (op.Insert k v)) s t (Ok p) makes = makes
-turns_live bounds (step.Act name (op.Insert k v)) s t (Err c) makes = makes
-turns_live bounds (step.Act name (op.Delete k)) s t (Ok p) makes = makes
-turns_live bounds (step.Act name (op.Delete k)) s t (Err c) makes = makes
-turns_live bounds (step.Act name (op.Lock k)) s t (Ok p) makes = makes
-turns_live bounds (step.Act name (op.Lock k)) s t (Err c) makes = makes
-turns_live bounds (step.Act name (op.Declare mode ttl most)) s t (Ok p) makes = makes
-turns_live bounds (step.Act name (op.Declare mode ttl most)) s t (Err c) makes = makes
-turns_live bounds (step.Act name op.Draw) s t (Ok p) makes = makes
-turns_live bounds (step.Act name op.Draw) s t (Err c) makes = makes
-turns_live bounds (step.Act name (op.Resolve now)) s t (Ok p) makes = makes
-turns_live bounds (step.Act name (op.Resolve now)) s t (Err c) makes = makes
-turns_live bounds (step.Act name op.Finish) s t (Ok p) makes = makes
-turns_live bounds (step.Act name op.Finish) s t (Err c) makes = makes
-turns_live bounds (step.Act name op.Stop) s t (Ok p) makes = makes
-turns_live bounds (step.Act name op.Stop) s t (Err c) makes = makes
-turns_live bounds (step.Send name call d) s t (Ok p) makes = makes
-turns_live bounds (step.Send name call d) s t (Err c) makes = makes
-turns_live bounds (step.Deliver name) s t (Ok p) makes = makes
-turns_live bounds (step.Deliver name) s t (Err c) makes = makes
-turns_live bounds (step.Read k n) s t (Ok p) makes = makes
-turns_live bounds (step.Read k n) s t (Err c) makes = makes
-turns_live bounds (step.Versions k) s t (Ok p) makes = makes
-turns_live bounds (step.Versions k) s t (Err c) makes = makes
-turns_live bounds (step.Tick n) s t (Ok p) makes = makes
-turns_live bounds (step.Tick n) s t (Err c) makes = makes
-turns_live bounds (step.Gc n) s t (Ok p) makes = makes
-turns_live bounds (step.Gc n) s t (Err c) makes = makes
-turns_live bounds (step.Seed k v) s t (Ok p) makes = makes
-turns_live bounds (step.Seed k v) s t (Err c) makes = makes
-turns_live bounds (step.Transfer name what) s t (Ok p) makes = makes
-turns_live bounds (step.Transfer name what) s t (Err c) makes = makes
+    → stays what ≡ true → Makes bounds what s (said_of answer) t
+    → Turns bounds what (live s) (Plain answer) (live t)
+turns_live bounds (step.Begin name) s t (Ok p) stay makes = (stay, makes)
+turns_live bounds (step.Begin name) s t (Err c) stay makes = (stay, makes)
+turns_live bounds (step.Act name (op.Put k v)) s t (Ok p) stay makes = (stay, makes)
+turns_live bounds (step.Act name (op.Put k v)) s t (Err c) stay makes = (stay, makes)
+turns_live bounds (step.Act name (op.Insert k v)) s t (Ok p) stay makes = (stay, makes)
+turns_live bounds (step.Act name (op.Insert k v)) s t (Err c) stay makes = (stay, makes)
+turns_live bounds (step.Act name (op.Delete k)) s t (Ok p) stay makes = (stay, makes)
+turns_live bounds (step.Act name (op.Delete k)) s t (Err c) stay makes = (stay, makes)
+turns_live bounds (step.Act name (op.Lock k)) s t (Ok p) stay makes = (stay, makes)
+turns_live bounds (step.Act name (op.Lock k)) s t (Err c) stay makes = (stay, makes)
+turns_live bounds (step.Act name (op.Declare mode ttl most)) s t (Ok p) stay makes = (stay, makes)
+turns_live bounds (step.Act name (op.Declare mode ttl most)) s t (Err c) stay makes = (stay, makes)
+turns_live bounds (step.Act name op.Draw) s t (Ok p) stay makes = (stay, makes)
+turns_live bounds (step.Act name op.Draw) s t (Err c) stay makes = (stay, makes)
+turns_live bounds (step.Act name (op.Resolve now)) s t (Ok p) stay makes = (stay, makes)
+turns_live bounds (step.Act name (op.Resolve now)) s t (Err c) stay makes = (stay, makes)
+turns_live bounds (step.Act name op.Finish) s t (Ok p) stay makes = (stay, makes)
+turns_live bounds (step.Act name op.Finish) s t (Err c) stay makes = (stay, makes)
+turns_live bounds (step.Act name op.Stop) s t (Ok p) stay makes = (stay, makes)
+turns_live bounds (step.Act name op.Stop) s t (Err c) stay makes = (stay, makes)
+turns_live bounds (step.Send name call d) s t (Ok p) stay makes = (stay, makes)
+turns_live bounds (step.Send name call d) s t (Err c) stay makes = (stay, makes)
+turns_live bounds (step.Deliver name) s t (Ok p) stay makes = (stay, makes)
+turns_live bounds (step.Deliver name) s t (Err c) stay makes = (stay, makes)
+turns_live bounds (step.Read k n) s t (Ok p) stay makes = (stay, makes)
+turns_live bounds (step.Read k n) s t (Err c) stay makes = (stay, makes)
+turns_live bounds (step.Versions k) s t (Ok p) stay makes = (stay, makes)
+turns_live bounds (step.Versions k) s t (Err c) stay makes = (stay, makes)
+turns_live bounds (step.Tick n) s t (Ok p) stay makes = (stay, makes)
+turns_live bounds (step.Tick n) s t (Err c) stay makes = (stay, makes)
+turns_live bounds (step.Gc n) s t (Ok p) stay makes = (stay, makes)
+turns_live bounds (step.Gc n) s t (Err c) stay makes = (stay, makes)
+turns_live bounds (step.Seed k v) s t (Ok p) stay makes = (stay, makes)
+turns_live bounds (step.Seed k v) s t (Err c) stay makes = (stay, makes)
+turns_live bounds (step.Transfer name what) s t (Ok p) stay makes = (stay, makes)
+turns_live bounds (step.Transfer name what) s t (Err c) stay makes = (stay, makes)
 
 -- what a log that was told more keeps, the log before that keeps
 pub kept_told : (old mid new : Logged) (number : ℕ) (answer : LineAnswer) → mid.lost ≡ old.lost

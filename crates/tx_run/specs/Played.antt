@@ -98,6 +98,12 @@ begins (step.Begin name) = is_name name
 begins (step.Transfer name what) = is_name name
 begins _ = false
 
+-- A step leaves its session live: neither `finish` nor `stop` does, whatever it is told.
+abbrev pub stays : Step Text → Bool
+stays (step.Act name op.Finish) = false
+stays (step.Act name op.Stop) = false
+stays _ = true
+
 -- what its live session has entered
 abbrev pub buffer_at : Where → Entries
 buffer_at (at (free k)) = []
@@ -148,7 +154,7 @@ module _ (bounds : List Key) where
   Turns (step.Act name op.Stop) (live s) (Plain (Ok p)) (free l) = (p.reply ≡ reply.Fine) × Left bounds s l
   Turns (step.Transfer name what) (free k) answer (free l) = Transfers bounds what k answer l
       ⊎ ((answer ≡ Plain (Err Name)) × (begins (step.Transfer name what) ≡ false) × (l ≡ k))
-  Turns what (live s) (Plain answer) (live t) = Makes bounds what s (said_of answer) t
+  Turns what (live s) (Plain answer) (live t) = (stays what ≡ true) × Makes bounds what s (said_of answer) t
   Turns what (free k) (Plain (Err cause)) (free l) = (cause ≡ Name) × (begins what ≡ false) × (l ≡ k)
   Turns what from answer to = ⊥
 

@@ -3,7 +3,7 @@ ghost use Rattle.std.specs.Prelude.{◌≡◌, ◌+◌, true, None, Some, is_som
 ghost use Rattle.tx_steps.specs.Steps.{asked, IsApart};
 ghost use Rattle.tx_run.specs.Jobs.{JobGoesOn, MayAnswer, with_line};
 ghost use Rattle.tx_transfer.specs.Steps.{Begun};
-ghost use Rattle.tx_run.specs.Played.{IsPlayed, Leads, Makes, PlaysOne, SaysBegin, SaysFinish, SaysStop, Standing, StopsSo, at, buffer_at, free, live};
+ghost use Rattle.tx_run.specs.Played.{IsPlayed, Leads, Makes, PlaysOne, SaysBegin, SaysFinish, SaysStop, Standing, StopsSo, at, buffer_at, free, live, stays};
 ghost use Rattle.tx_journal.specs.Known.{Known};
 ghost use Rattle.tx_workload.specs.LineNumbers.{number_of};
 ghost use Rattle.tx_workload.specs.Readers.{HasSession};
@@ -142,6 +142,7 @@ impl<J: JournalId, L: Source, F: Families + Drop, R: Wait + Drop> ScriptJob<J, L
         requires later { ComeLater L.text number self.old.left }
         requires says { Says L.text number (Some (asked step)) }
         requires named { HasSession L.text number (session_name L.text self.old.number) }
+        requires still { stays (asked step) ≡ true }
         ensures goes { JobGoesOn (with_line number self.old) self.new }
         ensures plays { PlaysOne J.bounds L.text (live session.value) number self.old.log self.new.log self.new.stands }
     {

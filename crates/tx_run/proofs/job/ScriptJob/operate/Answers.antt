@@ -85,7 +85,7 @@ returns-clause-plays g c =
         here = live here;
         hears = inl refl;
         there = live mid;
-        turns = inl (turns_live bounds what here mid answer makes);
+        turns = inl (turns_live bounds what here mid answer c.requires.still makes);
         heard = inr heard;
       };
     }
