@@ -8,7 +8,7 @@ use Rattle.tx_update.specs.Updates.{SeatGoesOn}
 use Rattle.tx_embed.specs.declared.answer.Said.TheVariants as said
 use Rattle.tx_embed.specs.declared.client.Slot.TheVariants.{Idle, Open, Lent}
 use Rattle.tx_embed.specs.declared.open_transaction.NotCommitted.{NotCommitted}
-use Rattle.tx_embed.specs.declared.open_transaction.NotCommitted.TheVariants as not
+use Rattle.tx_embed.specs.declared.open_transaction.NotCommitted.TheVariants as uncommitted
 use Rattle.tx_embed.specs.declared.request.ClientAct.{ClientAct}
 use Rattle.tx_embed.specs.declared.request.ClientAct.TheVariants as act
 use Rattle.tx_embed.specs.Transactions.{Commits}
@@ -34,8 +34,8 @@ pub commit_acts : (bounds : List Key) (s : Seated) (e : Result (Option ℕ) NotC
     → Commits bounds commit_terms s e k → EndsSo bounds s (told_ending e) k
 commit_acts bounds s (Ok (Some at)) k commits = commits
 commit_acts bounds s (Ok None) k commits = commits
-commit_acts bounds s (Err (not.Stopped stop)) k commits = commits
-commit_acts bounds s (Err not.Unknown) k commits = commits
+commit_acts bounds s (Err (uncommitted.Stopped stop)) k commits = commits
+commit_acts bounds s (Err uncommitted.Unknown) k commits = commits
 
 -- a slot with no transaction that is open
 abbrev pub IsClosed : SlotContent → Type 0

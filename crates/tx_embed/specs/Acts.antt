@@ -18,7 +18,7 @@ use Rattle.tx_embed.specs.declared.answer.Said.{Said}
 use Rattle.tx_embed.specs.declared.answer.Said.TheVariants as said
 use Rattle.tx_embed.specs.declared.client.Slot.{Slot}
 use Rattle.tx_embed.specs.declared.client.Slot.TheVariants.{Idle, Open}
-use Rattle.tx_embed.specs.declared.open_transaction.NotCommitted.TheVariants as not
+use Rattle.tx_embed.specs.declared.open_transaction.NotCommitted.TheVariants as uncommitted
 use Rattle.tx_embed.specs.declared.request.ClientAct.{ClientAct}
 use Rattle.tx_embed.specs.declared.request.ClientAct.TheVariants as act
 use Rattle.tx_embed.specs.Transactions.{Enters, Commits}
@@ -74,8 +74,8 @@ InsertsSo key value s _ x = ⊥
 abbrev pub EndsSo : List Key → Seated → Said → Known → Type 0
 EndsSo bounds s (said.Committed at) k = Commits bounds commit_terms s (Ok (Some at)) k
 EndsSo bounds s said.ReadOnly k = Commits bounds commit_terms s (Ok None) k
-EndsSo bounds s (said.Stopped why) k = Commits bounds commit_terms s (Err (not.Stopped why)) k
-EndsSo bounds s said.Unknown k = Commits bounds commit_terms s (Err not.Unknown) k
+EndsSo bounds s (said.Stopped why) k = Commits bounds commit_terms s (Err (uncommitted.Stopped why)) k
+EndsSo bounds s said.Unknown k = Commits bounds commit_terms s (Err uncommitted.Unknown) k
 EndsSo bounds s _ k = ⊥
 
 -- it is left: nothing of it was declared

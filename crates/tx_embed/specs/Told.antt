@@ -6,7 +6,7 @@ use Rattle.tx_update.specs.declared.stops.Stop.{Stop}
 use Rattle.tx_embed.specs.declared.answer.Said.{Said}
 use Rattle.tx_embed.specs.declared.answer.Said.TheVariants as said
 use Rattle.tx_embed.specs.declared.open_transaction.NotCommitted.{NotCommitted}
-use Rattle.tx_embed.specs.declared.open_transaction.NotCommitted.TheVariants as not
+use Rattle.tx_embed.specs.declared.open_transaction.NotCommitted.TheVariants as uncommitted
 
 -- of the read of a key
 abbrev pub told_found : Result (Option Value) Stop → Said
@@ -29,5 +29,5 @@ told_entry (Err stop) = said.Stopped stop
 abbrev pub told_ending : Result (Option ℕ) NotCommitted → Said
 told_ending (Ok (Some at)) = said.Committed at
 told_ending (Ok None) = said.ReadOnly
-told_ending (Err (not.Stopped stop)) = said.Stopped stop
-told_ending (Err not.Unknown) = said.Unknown
+told_ending (Err (uncommitted.Stopped stop)) = said.Stopped stop
+told_ending (Err uncommitted.Unknown) = said.Unknown

@@ -12,7 +12,7 @@ use Rattle.tx_client.specs.Calls.{Seated, seated, Records}
 use Rattle.tx_update.specs.declared.stops.Stop.{Stop}
 use Rattle.tx_update.specs.Updates.{IsWithoutEffect, MayHaveDeclared, EndedWith, Wrote}
 use Rattle.tx_embed.specs.declared.open_transaction.NotCommitted.{NotCommitted}
-use Rattle.tx_embed.specs.declared.open_transaction.NotCommitted.TheVariants as not
+use Rattle.tx_embed.specs.declared.open_transaction.NotCommitted.TheVariants as uncommitted
 
 -- this is entered now, and nothing else is new
 abbrev pub Enters : Entries → Seated → Seated → Type 0
@@ -22,9 +22,9 @@ Enters entered old new = new ≡ seated (record old.state { buffer = entered }) 
 -- that it is not known; else why it was without effect.
 abbrev pub TellsOf : Outcome → Result (Unit {0}) Stop → Result (Option ℕ) NotCommitted → Type 0
 TellsOf (Committed at) done r = r ≡ Ok (Some at)
-TellsOf (Unknown why) done r = r ≡ Err not.Unknown
+TellsOf (Unknown why) done r = r ≡ Err uncommitted.Unknown
 TellsOf ReadOnly (Ok x) r = r ≡ Ok None
-TellsOf o done r = (stop : Stop) × (r ≡ Err (not.Stopped stop))
+TellsOf o done r = (stop : Stop) × (r ≡ Err (uncommitted.Stopped stop))
 
 -- its fate is not known
 abbrev pub IsNotKnown : Outcome → Type 0
@@ -47,9 +47,9 @@ module _ (bounds : List Key) (terms : Terms) where
   abbrev pub Commits : Seated → Result (Option ℕ) NotCommitted → Known → Type 0
   Commits old (Ok (Some at)) new = EndedAllWritten old (Committed at) new
   Commits old (Ok None) new = EndedAllWritten old ReadOnly new
-  Commits old (Err (not.Stopped stop)) new = (o : Outcome) × EndedWith bounds old.seat old.state.start o new
+  Commits old (Err (uncommitted.Stopped stop)) new = (o : Outcome) × EndedWith bounds old.seat old.state.start o new
       × IsWithoutEffect o
-  Commits old (Err not.Unknown) new =
+  Commits old (Err uncommitted.Unknown) new =
       ((o : Outcome) × EndedWith bounds old.seat old.state.start o new × IsNotKnown o)
       ⊎ ((session : Seated) × MayHaveDeclared old session × (finish_of session.state ≡ None)
       × Records bounds session.seat (Stopped session.seat.seat) new)
