@@ -248,7 +248,7 @@ module _ (bounds : List Key) (source : Option (List ℕ)) where
               here = live s;
               hears = inl refl;
               there = live s;
-              turns = inl (refl, refl, refl);
+              turns = inl (refl, (refl, refl));
               heard = inl refl;
             });
       })
