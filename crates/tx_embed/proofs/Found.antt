@@ -1,5 +1,5 @@
 -- What a read finds by what it was answered, and where another comes before it.
-use Rattle.std.proofs.Common.{◌≡◌, ◌∙◌, ℕ, Option, Result, Ok, Err, IfOk, IfErr, refl, sym, subst}
+use Rattle.std.proofs.Common.{◌≡◌, ◌∙◌, ℕ, List, Option, Result, Ok, Err, IfOk, IfErr, refl, sym, subst}
 use Rattle.tx_types.specs.declared.key.Key.{Key}
 use Rattle.tx_types.specs.declared.fault.Fault.TheVariants as fault
 use Rattle.tx_types.specs.declared.value.Value.{Value}
@@ -9,6 +9,8 @@ use Rattle.tx_types.specs.declared.mutation.Mutation.{Mutation}
 use Rattle.tx_plan.specs.declared.answer.Answer.{Answer}
 use Rattle.tx_plan.specs.declared.answer.Answer.TheVariants.{KeyIsLocked}
 use Rattle.tx_core.specs.Histories.{History}
+use Rattle.tx_core.specs.Worlds.{IsWorldRun}
+use Rattle.tx_core.proofs.seats.Beginnings.{begins_all}
 use Rattle.tx_transaction.specs.declared.state.Miss.{Miss}
 use Rattle.tx_transaction.specs.declared.state.Miss.TheVariants as miss
 use Rattle.tx_transaction.specs.Buffers.{Entries, buffered}
@@ -16,12 +18,19 @@ use Rattle.tx_client.specs.Calls.{Seated}
 use Rattle.tx_client.specs.declared.resolved.WaitCause.{WaitCause}
 use Rattle.tx_update.specs.declared.stops.Stop.{Stop}
 use Rattle.tx_update.specs.declared.stops.Stop.TheVariants as stop
-use Rattle.tx_update.specs.Reads.{Finds, AnswersRead, AnswersScan, IsGetAnswer, IsScanAnswer, IsReadMiss}
+use Rattle.tx_update.specs.Reads.{Finds, AnswersRead, AnswersReadOn, AnswersScan, IsGetAnswer, IsScanAnswer, IsReadMiss}
 use Rattle.tx_update.specs.Stops.{IsReadStop, NamesKey, stop_of_miss}
 use Rattle.tx_update.proofs.CallSequences.{follows_more, goes_begins}
 use Rattle.tx_update.proofs.ReadReplies.{answered_on}
 use Rattle.tx_update.proofs.ReadStops.{told_stops}
 use Rattle.tx_embed.specs.Reads.{OnlyReads, FindsFirst, LooksAt, Gets, LooksFrom, Nexts}
+
+-- what is found in each run from now on is found now
+pub if_read_now : (bounds : List Key) (entered : Option Mutation) (h : History) → IsWorldRun bounds h → (start : ℕ)
+    (key : Key) (r : Result Answer Miss) → IfOk r (AnswersReadOn bounds entered h start key)
+    → IfOk r (AnswersRead entered h start key)
+if_read_now bounds entered h run start key (Ok a) reads = reads.later h (begins_all h) run
+if_read_now bounds entered h run start key (Err why) reads = tt
 
 pub reads_more : (a b c : Seated) → OnlyReads a b → OnlyReads b c → OnlyReads a c
 reads_more a b c p q = (follows_more a b c p.0 q.0, q.1 ∙ p.1)

@@ -28,7 +28,10 @@ fn look<J: JournalId, S: Sender<Request<J>, Reply<J>>>(
     requires drawn { HasSeenStart session.old }
     ensures { LooksAt (LosesRead S.sends) session.old key.now result session.new }
 {
-    session.get(key, sender)
+    let answer = session.get(key, sender);
+    // For proofs: what its seat has seen is a run.
+    session.show();
+    answer
 }
 
 // The value that a read of a key found.
