@@ -8,7 +8,7 @@ use Rattle.tx_machine.specs.Machine.{empty, table_of, IsRun}
 use Rattle.tx_machine.specs.Representation.{Represents}
 use Rattle.tx_text.specs.Lines.{lines_of}
 use Rattle.tx_check.specs.declared.checker.LineTurn.TheVariants as turn
-use Rattle.tx_check.specs.declared.kept.StepTurn.TheVariants as with
+use Rattle.tx_check.specs.declared.explanation.StepTurn.TheVariants as with
 use Rattle.tx_check.specs.Check.{step_in, Says, Reaches}
 use Rattle.tx_check.specs.Turns.{Turns, StepTurns}
 use Rattle.tx_check.proofs.Traces.{SoFar, Says-more, reached, left_at}

@@ -9,8 +9,8 @@ use Rattle.tx_check.specs.declared.checker.LineTurn.{LineTurn}
 use Rattle.tx_check.specs.declared.checker.LineTurn.TheVariants.{End, Made, Refused, Faulted}
 use Rattle.tx_check.specs.declared.checker.Halt.{Halt}
 use Rattle.tx_check.specs.declared.checker.Halt.TheVariants as stop
-use Rattle.tx_check.specs.declared.kept.StepTurn.{StepTurn}
-use Rattle.tx_check.specs.declared.kept.StepTurn.TheVariants as with
+use Rattle.tx_check.specs.declared.explanation.StepTurn.{StepTurn}
+use Rattle.tx_check.specs.declared.explanation.StepTurn.TheVariants as with
 use Rattle.tx_check.specs.declared.words.Verdict.{Verdict}
 use Rattle.tx_check.specs.declared.words.Verdict.TheVariants.{Yes, No, Fault}
 use Rattle.tx_text.specs.Lines.{lines_of}

@@ -10,7 +10,7 @@ ghost use Rattle.tx_machine.specs.declared.step.Step.{Step};
 ghost use Rattle.tx_text.specs.Lines.{lines_of};
 ghost use Rattle.tx_text.specs.Output.{AppendsPart};
 
-use crate::kept::{explained, walk_kept};
+use crate::explanation::{explained, walk_kept};
 use crate::listed_step::listed_step;
 use crate::machine_step::{UnreadStep, machine_step};
 use crate::words::{Verdict, verdict_line};

@@ -9,7 +9,7 @@
 
 mod all;
 mod checker;
-mod kept;
+mod explanation;
 mod listed_step;
 mod machine_step;
 mod reasons;

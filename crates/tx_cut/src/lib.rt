@@ -4,13 +4,13 @@
 #![tactic(auto)]
 
 mod cut;
-mod hidden;
+mod hidden_lock;
 mod lives;
 mod part;
 mod rows;
 
 pub use cut::Cut;
-pub use hidden::HiddenLock;
+pub use hidden_lock::HiddenLock;
 pub use lives::Life;
 pub use part::{Part, part_of, whole_of};
 pub use rows::ShownRow;

@@ -3,7 +3,7 @@ ghost use Rattle.std.specs.Prelude.{IfOk};
 ghost use Rattle.tx_cut.specs.Parts.{IsCut};
 
 use crate::cut::Cut;
-use crate::hidden::{HiddenLock, hidden_of};
+use crate::hidden_lock::{HiddenLock, hidden_of};
 use crate::lives::{Life, lives_of};
 use crate::rows::{ShownRow, counts_of, named_of, rows_of};
 use std::alloc::{AllocError, Global};

@@ -48,10 +48,19 @@ Asks op key value act.Abort = op ≡ 9
 abbrev pub refusal : Fault → Said
 refusal f = Stopped (Refused f)
 
--- why nothing is asked: a number that says nothing, a key or a value of too few or too many bytes,
--- or want of memory
+-- what is asked has a key, and no value
+abbrev pub IsByKey : ℕ → Type 0
+IsByKey op = (op ≡ 2) ⊎ (op ≡ 5) ⊎ (op ≡ 6) ⊎ (op ≡ 7)
+
+-- what is asked has a key and a value
+abbrev pub IsByValue : ℕ → Type 0
+IsByValue op = (op ≡ 3) ⊎ (op ≡ 4)
+
+-- Why nothing is asked: a number that says nothing; of what has a key, a key of too few or too many
+-- bytes, or want of memory; of a range, its end likewise; of what has a value, one of too many.
 abbrev pub IsRefused : ℕ → List ℕ → List ℕ → Said → Type 0
 IsRefused op key value said = ((said ≡ Misused) × (1 ≤ op → 9 < op))
-    ⊎ ((said ≡ refusal fault.KeyLength) × ((is_key key ≡ false) ⊎ (is_key value ≡ false)))
-    ⊎ ((said ≡ refusal fault.ValueLength) × (MAX_VALUE_BYTES < length value))
-    ⊎ (said ≡ refusal fault.OutOfMemory)
+    ⊎ ((IsByKey op ⊎ IsByValue op) × (said ≡ refusal fault.KeyLength) × (is_key key ≡ false))
+    ⊎ ((op ≡ 7) × (said ≡ refusal fault.KeyLength) × (is_key value ≡ false))
+    ⊎ (IsByValue op × (said ≡ refusal fault.ValueLength) × (MAX_VALUE_BYTES < length value))
+    ⊎ ((IsByKey op ⊎ IsByValue op) × (said ≡ refusal fault.OutOfMemory))

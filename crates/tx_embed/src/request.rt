@@ -3,7 +3,7 @@ ghost use Rattle.std.specs.Prelude.{◌≡◌, ◌⊎◌, ◌<◌, length, false
 ghost use Rattle.tx_types.specs.declared.limits.TheConstants.{MAX_VALUE_BYTES};
 ghost use Rattle.tx_types.specs.declared.fault.Fault.TheVariants as fault;
 ghost use Rattle.tx_types.specs.Lengths.{is_key};
-ghost use Rattle.tx_embed.specs.Requests.{parts_in, parts_by, refusal, Asks, IsRefused};
+ghost use Rattle.tx_embed.specs.Requests.{parts_in, parts_by, refusal, Asks, IsByKey, IsByValue, IsRefused};
 
 use crate::answer::Said;
 use std::alloc::Global;
@@ -89,7 +89,7 @@ fn value_of(alloc: Global, bytes: &[u8]) -> Result<Value, Said>
 
 // What is asked by a key alone, or of a range.
 fn by_key(alloc: Global, op: u8, key: &[u8], value: &[u8]) -> Result<ClientAct, Said>
-    requires { (op ≡ 2) ⊎ (op ≡ 5) ⊎ (op ≡ 6) ⊎ (op ≡ 7) }
+    requires { IsByKey op }
     ensures ok { IfOk result (Asks op key.now value.now) }
     ensures err { IfErr result (IsRefused op key.now value.now) }
 {
@@ -105,7 +105,7 @@ fn by_key(alloc: Global, op: u8, key: &[u8], value: &[u8]) -> Result<ClientAct, 
 
 // What is asked by a key and its value.
 fn by_value(alloc: Global, op: u8, key: &[u8], value: &[u8]) -> Result<ClientAct, Said>
-    requires { (op ≡ 3) ⊎ (op ≡ 4) }
+    requires { IsByValue op }
     ensures ok { IfOk result (Asks op key.now value.now) }
     ensures err { IfErr result (IsRefused op key.now value.now) }
 {

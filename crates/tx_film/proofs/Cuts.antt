@@ -15,7 +15,7 @@ use Rattle.tx_core.specs.Decisions.{effect_in}
 use Rattle.tx_core.specs.Shadow.{shadow, deciding_in, checking, answering}
 use Rattle.tx_core.proofs.seats.Beginnings.{begins_more}
 use Rattle.tx_plan.specs.Answers.{start_in}
-use Rattle.tx_trace.specs.declared.taken.Taking.{Taking}
+use Rattle.tx_trace.specs.declared.taken_log.Taking.{Taking}
 use Rattle.tx_trace.specs.Takings.{takings}
 use Rattle.tx_engine.specs.Semantics.{EngineState, opening}
 use Rattle.tx_film.specs.declared.frame.Frame.{Frame}

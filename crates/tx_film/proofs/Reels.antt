@@ -12,13 +12,13 @@ use Rattle.tx_types.specs.declared.limits.TheConstants.{MAX_LIVE_SESSIONS}
 use Rattle.tx_core.specs.Worlds.{IsWorldRun}
 use Rattle.tx_core.specs.Histories.{History, Begins}
 use Rattle.tx_core.specs.Shadow.{shadow}
-use Rattle.tx_trace.specs.declared.taken.TakenLog.{TakenLog}
+use Rattle.tx_trace.specs.declared.taken_log.TakenLog.{TakenLog}
 use Rattle.tx_trace.specs.Takings.{takings, AreTakings}
 use Rattle.tx_trace.specs.Traces.{Noted, Traces}
 use Rattle.tx_network.specs.Networks.{NetworkParts, IsTraced, takings_in}
 use Rattle.tx_core.proofs.Basics.{some_same}
 use Rattle.tx_core.proofs.seats.Beginnings.{begins_all}
-use Rattle.tx_trace.specs.declared.taken.Taking.{Taking}
+use Rattle.tx_trace.specs.declared.taken_log.Taking.{Taking}
 use Rattle.tx_network.proofs.Traces.{traced_same}
 use Rattle.tx_engine.specs.Semantics.{EngineState, opening}
 use Rattle.tx_engine.specs.Plays.{Leads}

@@ -6,7 +6,7 @@ use Rattle.tx_types.specs.declared.limits.TheConstants.{MAX_LIVE_SESSIONS}
 use Rattle.tx_core.specs.Worlds.{IsWorldRun}
 use Rattle.tx_core.specs.Histories.{Begins}
 use Rattle.tx_core.specs.Shadow.{shadow}
-use Rattle.tx_trace.specs.declared.taken.TakenLog.{TakenLog}
+use Rattle.tx_trace.specs.declared.taken_log.TakenLog.{TakenLog}
 use Rattle.tx_trace.specs.Takings.{takings}
 use Rattle.tx_trace.specs.Traces.{Noted}
 use Rattle.serde_json.specs.Data.{Items}

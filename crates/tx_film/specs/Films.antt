@@ -9,8 +9,8 @@ use Rattle.tx_cells.specs.Copies.{Copies}
 use Rattle.tx_core.specs.Histories.{History, left}
 use Rattle.tx_core.specs.Worlds.{route}
 use Rattle.tx_core.specs.Shadow.{shadow}
-use Rattle.tx_trace.specs.declared.taken.Taking.{Taking}
-use Rattle.tx_trace.specs.declared.taken.TakenLog.{TakenLog}
+use Rattle.tx_trace.specs.declared.taken_log.Taking.{Taking}
+use Rattle.tx_trace.specs.declared.taken_log.TakenLog.{TakenLog}
 use Rattle.tx_trace.specs.Takings.{takings}
 use Rattle.tx_trace.specs.Traces.{Noted}
 use Rattle.tx_text.specs.declared.end.End.{End}

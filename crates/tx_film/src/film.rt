@@ -10,8 +10,8 @@ ghost use Rattle.tx_film.specs.Films.{Films};
 ghost use Rattle.tx_film.specs.Filmed.{Counted, AreShown, HasFilmed, StopsAt, Ended, Stands};
 
 use crate::frame::{Film, Frame, KeyShown};
-use crate::said::session_named;
-use crate::touched::places_of;
+use crate::names::session_named;
+use crate::places::places_of;
 use std::alloc::{AllocError, Global};
 use std::marker::Brand;
 use tx_cells::{Families, Makes, make_families};

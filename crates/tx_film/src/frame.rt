@@ -1,6 +1,6 @@
 //! The frames of a film, one a line.
 ghost use Rattle.std.specs.Prelude.{◌≡◌, Some, reverse, slice_get, IfSome};
-ghost use Rattle.tx_trace.specs.declared.taken.TakenLog.{TakenLog};
+ghost use Rattle.tx_trace.specs.declared.taken_log.TakenLog.{TakenLog};
 ghost use Rattle.tx_film.specs.Films.{count_in, count_before, part, takings_at, steps_at};
 
 use std::marker::Model;

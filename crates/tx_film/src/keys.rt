@@ -3,7 +3,7 @@ ghost use Rattle.std.specs.Prelude.{IfOk, OnOk};
 ghost use Rattle.tx_types.specs.Keys.{AreRising};
 ghost use Rattle.tx_film.specs.Lines.{IsShowable};
 
-use crate::said::key_named;
+use crate::names::key_named;
 use std::alloc::Global;
 use tx_steps::{Line, Program};
 use tx_text::{Broken, Parts};

@@ -10,10 +10,10 @@ use Rattle.tx_recording.specs.declared.recording.Transaction.{Transaction}
 use Rattle.tx_recording.specs.declared.recording.Recording.{Recording}
 use Rattle.tx_recording.specs.Recordings.{IsRecording, IsTransactionOf, IsActOf, IsOpOf}
 use Rattle.tx_import.specs.declared.names.KeyedValue.{KeyedValue}
-use Rattle.tx_import.specs.declared.said.SaidAct.{SaidAct}
-use Rattle.tx_import.specs.declared.said.SaidAct.TheVariants as said
-use Rattle.tx_import.specs.declared.said.SaidOp.{SaidOp}
-use Rattle.tx_import.specs.declared.said.SaidTransaction.{SaidTransaction}
+use Rattle.tx_import.specs.declared.line_content.SaidAct.{SaidAct}
+use Rattle.tx_import.specs.declared.line_content.SaidAct.TheVariants as said
+use Rattle.tx_import.specs.declared.line_content.SaidOp.{SaidOp}
+use Rattle.tx_import.specs.declared.line_content.SaidTransaction.{SaidTransaction}
 use Rattle.tx_import.specs.declared.draft.Tables.{Tables}
 use Rattle.tx_import.specs.declared.draft.Draft.{Draft}
 use Rattle.tx_import.specs.Numbers.{IsActSaid, IsOpSaid, IsTransactionSaid}

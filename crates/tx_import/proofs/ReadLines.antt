@@ -3,7 +3,7 @@ use Rattle.std.proofs.Common.{◌≡◌, ℕ, suc, ◌+◌, ◌^◌, ◌<◌, �
 use Rattle.std.proofs.lemmas.Bool.{cases_lt}
 use Rattle.tx_types.specs.declared.fault.Cause.{Cause}
 use Rattle.tx_text.specs.Lines.{lines_of}
-use Rattle.tx_import.specs.declared.said.SaidTransaction.{SaidTransaction}
+use Rattle.tx_import.specs.declared.line_content.SaidTransaction.{SaidTransaction}
 use Rattle.tx_import.specs.declared.draft.Draft.{Draft}
 use Rattle.tx_import.specs.declared.reader.History.{History}
 use Rattle.tx_import.specs.declared.reader.HistoryTurn.TheVariants as turn

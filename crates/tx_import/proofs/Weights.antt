@@ -1,7 +1,7 @@
 -- How much operations weigh.
 use Rattle.std.proofs.Common.{◌≡◌, ℕ, ◌+◌, ◌<◌, ◌≤◌, List, [], ◌∷◌, ◌++◌, length, take, drop, get_or, ap, ◌∙◌, arith}
 use Rattle.std.proofs.lemmas.List.{take_more, take-append-drop}
-use Rattle.tx_import.specs.declared.said.SaidOp.{SaidOp}
+use Rattle.tx_import.specs.declared.line_content.SaidOp.{SaidOp}
 use Rattle.tx_import.specs.Drafts.{width, weight}
 
 pub weight-append : (xs ys : List SaidOp) → weight (xs ++ ys) ≡ weight xs + weight ys

@@ -6,10 +6,10 @@ use Rattle.tx_recording.specs.declared.recording.Act.TheVariants as act
 use Rattle.tx_recording.specs.declared.recording.Op.{Op}
 use Rattle.tx_recording.specs.declared.recording.Transaction.{Transaction}
 use Rattle.tx_recording.specs.Recordings.{IsTransactionOf}
-use Rattle.tx_import.specs.declared.said.SaidAct.{SaidAct}
-use Rattle.tx_import.specs.declared.said.SaidAct.TheVariants.{Append, Write, Read}
-use Rattle.tx_import.specs.declared.said.SaidOp.{SaidOp}
-use Rattle.tx_import.specs.declared.said.SaidTransaction.{SaidTransaction}
+use Rattle.tx_import.specs.declared.line_content.SaidAct.{SaidAct}
+use Rattle.tx_import.specs.declared.line_content.SaidAct.TheVariants.{Append, Write, Read}
+use Rattle.tx_import.specs.declared.line_content.SaidOp.{SaidOp}
+use Rattle.tx_import.specs.declared.line_content.SaidTransaction.{SaidTransaction}
 use Rattle.tx_import.specs.declared.draft.Tables.{Tables}
 use Rattle.tx_import.specs.declared.draft.Draft.{Draft}
 use Rattle.tx_import.specs.Numbers.{Grows, AreInTurn, AreOpsSaid, IsTransactionSaid}

@@ -7,7 +7,7 @@ use Rattle.tx_types.specs.declared.fault.Cause.TheVariants.{Json, Form, Long, Li
 use Rattle.tx_text.specs.Lines.{max_line, max_lines}
 use Rattle.tx_text.specs.Parts.{json_of}
 use Rattle.tx_recording.specs.Recordings.{IsRecording}
-use Rattle.tx_import.specs.declared.said.SaidTransaction.{SaidTransaction}
+use Rattle.tx_import.specs.declared.line_content.SaidTransaction.{SaidTransaction}
 use Rattle.tx_import.specs.declared.reader.History.{History}
 use Rattle.tx_import.specs.declared.reader.LineFault.{LineFault}
 use Rattle.tx_import.specs.Said.{transaction_of}

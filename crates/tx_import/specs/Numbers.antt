@@ -8,10 +8,10 @@ use Rattle.tx_recording.specs.declared.recording.Transaction.{Transaction}
 use Rattle.tx_import.specs.declared.name.Name.{Name}
 use Rattle.tx_import.specs.declared.name.Scalar.{Scalar}
 use Rattle.tx_import.specs.declared.names.KeyedValue.{KeyedValue}
-use Rattle.tx_import.specs.declared.said.SaidAct.{SaidAct}
-use Rattle.tx_import.specs.declared.said.SaidAct.TheVariants as said
-use Rattle.tx_import.specs.declared.said.SaidOp.{SaidOp}
-use Rattle.tx_import.specs.declared.said.SaidTransaction.{SaidTransaction}
+use Rattle.tx_import.specs.declared.line_content.SaidAct.{SaidAct}
+use Rattle.tx_import.specs.declared.line_content.SaidAct.TheVariants as said
+use Rattle.tx_import.specs.declared.line_content.SaidOp.{SaidOp}
+use Rattle.tx_import.specs.declared.line_content.SaidTransaction.{SaidTransaction}
 use Rattle.tx_import.specs.declared.draft.Tables.{Tables}
 
 -- some were added behind the others

@@ -9,10 +9,10 @@ use Rattle.tx_import.specs.declared.name.Name.{Name}
 use Rattle.tx_import.specs.declared.name.Name.TheVariants.{Text, Number}
 use Rattle.tx_import.specs.declared.name.Scalar.{Scalar}
 use Rattle.tx_import.specs.declared.name.Scalar.TheVariants as scalar
-use Rattle.tx_import.specs.declared.said.SaidAct.{SaidAct}
-use Rattle.tx_import.specs.declared.said.SaidAct.TheVariants.{Append, Write, Read}
-use Rattle.tx_import.specs.declared.said.SaidOp.{SaidOp}
-use Rattle.tx_import.specs.declared.said.SaidTransaction.{SaidTransaction}
+use Rattle.tx_import.specs.declared.line_content.SaidAct.{SaidAct}
+use Rattle.tx_import.specs.declared.line_content.SaidAct.TheVariants.{Append, Write, Read}
+use Rattle.tx_import.specs.declared.line_content.SaidOp.{SaidOp}
+use Rattle.tx_import.specs.declared.line_content.SaidTransaction.{SaidTransaction}
 
 -- a name: a whole number from 0 to 2^64 - 1, or a string of 1 to 512 bytes
 abbrev pub name_of : Data → Option Name

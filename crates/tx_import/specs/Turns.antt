@@ -3,7 +3,7 @@ use Rattle.std.specs.Prelude.{◌≡◌, ◌⊎◌, ℕ, ◌+◌, ◌^◌, ◌�
 use Rattle.tx_types.specs.declared.fault.Cause.{Cause}
 use Rattle.tx_types.specs.declared.fault.Cause.TheVariants.{Lines}
 use Rattle.tx_text.specs.Lines.{lines_of}
-use Rattle.tx_import.specs.declared.said.SaidTransaction.{SaidTransaction}
+use Rattle.tx_import.specs.declared.line_content.SaidTransaction.{SaidTransaction}
 use Rattle.tx_import.specs.declared.draft.Draft.{Draft}
 use Rattle.tx_import.specs.declared.reader.HistoryTurn.{HistoryTurn}
 use Rattle.tx_import.specs.declared.reader.HistoryTurn.TheVariants.{End, Put, Faulted}

@@ -3,9 +3,9 @@ ghost use Rattle.std.specs.Prelude.{◌≡◌, ◌≤◌, ◌<◌, ◌+◌, ◌^
 ghost use Rattle.tx_import.specs.Numbers.{Grows, AreValuesOf, IsActSaid, IsProcessSaid};
 ghost use Rattle.tx_import.specs.Drafts.{width, weight, held, GrowsDraft, FitsOps, FitsDraft, AddsOps, AddsTransaction, IsDraftOf};
 
+use crate::line_content::{SaidAct, SaidOp, SaidTransaction};
 use crate::name::{Name, Scalar};
 use crate::names::{Names, Values};
-use crate::said::{SaidAct, SaidOp, SaidTransaction};
 use std::alloc::{AllocError, Global};
 use tx_recording::{Act, Op, Span, Transaction};
 

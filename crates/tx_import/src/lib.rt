@@ -4,17 +4,17 @@
 mod bare;
 mod draft;
 mod line;
+mod line_content;
 mod members;
 mod name;
 mod names;
 mod reader;
 mod recorder;
-mod said;
 
 pub use bare::bare_of;
 pub use draft::Tables;
+pub use line_content::{SaidAct, SaidOp, SaidTransaction};
 pub use name::{Name, Scalar, Words};
 pub use names::{KeyedValue, Names, Values};
 pub use reader::{History, LineFault, read_history};
 pub use recorder::{Misrecorded, find_misrecorded};
-pub use said::{SaidAct, SaidOp, SaidTransaction};

@@ -5,8 +5,8 @@ ghost use Rattle.serde_json.specs.Find.{as_array, as_str, as_bool};
 ghost use Rattle.tx_check.specs.MachineSteps.{number_of, all_of};
 ghost use Rattle.tx_import.specs.Said.{name_of, signed_of, scalar_of, value_alone, values_of, act_of, op_of};
 
+use crate::line_content::{SaidAct, SaidOp, SaidTransaction};
 use crate::name::{Name, Scalar, Words};
-use crate::said::{SaidAct, SaidOp, SaidTransaction};
 use serde_json::Value as Json;
 use std::alloc::Global;
 use tx_recording::Outcome;

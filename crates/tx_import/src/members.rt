@@ -6,8 +6,8 @@ ghost use Rattle.tx_check.specs.MachineSteps.{number_of};
 ghost use Rattle.tx_import.specs.Said.{name_of, optional, outcome_said, ops_said, transaction_of};
 
 use crate::line::{Unread, list, name, number, ops, text};
+use crate::line_content::{SaidOp, SaidTransaction};
 use crate::name::Name;
-use crate::said::{SaidOp, SaidTransaction};
 use serde_json::Value as Json;
 use std::alloc::Global;
 use tx_recording::Outcome;

@@ -4,7 +4,7 @@ ghost use Rattle.serde_json.specs.View.{view};
 ghost use Rattle.tx_text.specs.Lines.{lines_of};
 ghost use Rattle.tx_recording.specs.Recordings.{IsRecording};
 ghost use Rattle.tx_import.specs.Said.{transaction_of};
-ghost use Rattle.tx_import.specs.declared.said.SaidTransaction.{SaidTransaction};
+ghost use Rattle.tx_import.specs.declared.line_content.SaidTransaction.{SaidTransaction};
 ghost use Rattle.tx_import.specs.Histories.{said_in, or_form, IsHistory, IsHistoryOf, IsFaultOf};
 ghost use Rattle.tx_import.specs.Numbers.{AreInTurn};
 ghost use Rattle.tx_import.specs.Turns.{HistoryTurns};
@@ -12,8 +12,8 @@ ghost use Rattle.tx_import.specs.Drafts.{FitsDraft, IsDraftOf};
 
 use crate::draft::{Draft, Tables};
 use crate::line::Unread;
+use crate::line_content::SaidTransaction;
 use crate::members::transaction;
-use crate::said::SaidTransaction;
 use serde_json::Value;
 use std::alloc::Global;
 use std::io::BufRead;

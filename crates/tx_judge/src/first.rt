@@ -1,8 +1,8 @@
 //! Which puts come first of those that nobody knows the place of.
 
-use crate::apart::{add_apart, puts_by_txn};
 use crate::greedy::order_of;
-use crate::wide::{are_within, wide_edges};
+use crate::overlap::{add_apart, puts_by_txn};
+use crate::wide_graph::{are_within, wide_edges};
 use std::alloc::{AllocError, Global};
 use tx_chains::{Extras, Plan, Put, first_member, first_put, last_put, number, put_at};
 use tx_order::{Edge, Unordered, order};

@@ -1,7 +1,7 @@
 //! An order in which of two that put into a key, of which nobody knows the order, one has committed
 //! when the other starts.
 
-use crate::apart::key_at;
+use crate::overlap::key_at;
 use std::alloc::{AllocError, Global};
 use std::collections::BinaryHeap;
 use tx_chains::{Put, number, put_at};

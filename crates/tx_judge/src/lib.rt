@@ -3,14 +3,14 @@
 //! so.
 #![tactic(auto)]
 
-mod apart;
 mod attempt;
+mod consequences;
 mod first;
-mod found;
 mod greedy;
+mod open_keys;
+mod overlap;
 mod search;
-mod undecided;
 mod verdict;
-mod wide;
+mod wide_graph;
 
 pub use verdict::judge;

@@ -6,9 +6,9 @@ ghost use Rattle.tx_views.specs.Owners.{AreOwners};
 ghost use Rattle.tx_verdict.specs.Verdicts.{IsVerdict};
 
 use crate::attempt::{refuted_by, try_versions, verdict_in};
+use crate::consequences::{Follows, follows_from};
 use crate::first::{Hint, hint_of};
-use crate::found::{Follows, follows_from};
-use crate::undecided::open_keys;
+use crate::open_keys::open_keys;
 use std::alloc::{AllocError, Global};
 use tx_chains::{Asked, Extras, Parts, Put, number, plan_of, versions_of};
 use tx_recording::Recording;

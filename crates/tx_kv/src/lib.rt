@@ -3,7 +3,6 @@
 
 mod client;
 mod collection;
-mod found;
 mod live;
 mod many;
 mod numbers;
@@ -11,6 +10,7 @@ mod pages;
 mod pin;
 mod program;
 mod ranges;
+mod read_result;
 mod reads;
 mod shared;
 mod stats;

@@ -9,7 +9,7 @@ ghost use Rattle.tx_update.specs.Reads.{SeesOn};
 ghost use Rattle.tx_update.specs.Stops.{NamesKey};
 ghost use Rattle.tx_kv.specs.Views.{IsViewStop, SeesEach, SeesEachOn};
 
-use crate::found::found_in;
+use crate::read_result::found_in;
 use std::alloc::Global;
 use tx_journal::{JournalId, Reply, Request, Sender};
 use tx_reader::Reader;

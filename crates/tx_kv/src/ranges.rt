@@ -8,7 +8,7 @@ ghost use Rattle.tx_laws.specs.Rows.{AreRowsOf};
 ghost use Rattle.tx_update.specs.Reads.{SeesOn};
 ghost use Rattle.tx_kv.specs.Views.{IsViewStop, SeesRange};
 
-use crate::found::{found_in, rows_in};
+use crate::read_result::{found_in, rows_in};
 use std::alloc::Global;
 use tx_journal::{JournalId, Reply, Request, Sender};
 use tx_reader::{Reader, end_of_part};

@@ -1,11 +1,12 @@
 //! Reads of a client alone, at one timestamp.
-ghost use Rattle.std.specs.Prelude.{◌≡◌, ◌⊎◌, IfOk, IfErr, Some};
+ghost use Rattle.std.specs.Prelude.{◌≡◌, ◌⊎◌, IfOk, IfErr, Some, false};
 ghost use Rattle.tx_machine.specs.Machine.{Sees, table_of};
 ghost use Rattle.tx_core.specs.Histories.{last};
 ghost use Rattle.tx_core.specs.Shadow.{shadow};
 ghost use Rattle.tx_journal.specs.Known.{HasDrawn};
 ghost use Rattle.tx_reader.specs.Readers.{OnlySees};
 ghost use Rattle.tx_types.specs.declared.fault.Fault.TheVariants as fault;
+ghost use Rattle.tx_types.specs.Lengths.{is_key};
 ghost use Rattle.tx_update.specs.declared.stops.Stop.TheVariants as stop;
 ghost use Rattle.tx_update.specs.Ranges.{IsRestOf, after_prefix, end_of_page};
 ghost use Rattle.tx_update.specs.Stops.{NamesKey};
@@ -172,7 +173,8 @@ impl<'v, 'a, J: JournalId, R: Wait> View<'v, 'a, J, R> {
         ensures finds { IfOk result (λ rows. SeesRange self.new.client.now.seats.resolves.events self.old.at
             (Some bytes.now) (after_prefix bytes.now) rows.items) }
         ensures err { IfErr result (λ s. IsViewStop self.new.client.now.seats.resolves.events
-            (last self.old.client.now.seats.resolves.events) self.old.at s ⊎ (s ≡ stop.Refused fault.KeyLength)) }
+            (last self.old.client.now.seats.resolves.events) self.old.at s
+            ⊎ ((s ≡ stop.Refused fault.KeyLength) × (is_key bytes.now ≡ false))) }
         ensures begins { self.new.client.now.seats.begins ≡ self.old.client.now.seats.begins }
         ensures resolves { OnlySees self.old.client.now.seats.resolves self.new.client.now.seats.resolves }
         ensures same { (self.new.at ≡ self.old.at) × (self.new.client.ghost_name ≡ self.old.client.ghost_name) }

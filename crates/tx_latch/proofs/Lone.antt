@@ -6,7 +6,7 @@ use Rattle.std.proofs.lemmas.Bool.Decides.{nat_tests}
 use Rattle.std.proofs.lemmas.List.{append-nil, map-append}
 use Rattle.std.proofs.lemmas.List.Elements.{filter-append}
 use Rattle.tx_types.specs.declared.fault.Fault.{Fault}
-use Rattle.tx_latch.specs.declared.asked.Lone.{Lone}
+use Rattle.tx_latch.specs.declared.asked_commands.Lone.{Lone}
 use Rattle.tx_latch.specs.Asked.{Command, contains, meets, blocked, granted_behind, granted, cids, is_asked, is_granted, newly_granted, without, Lacks, Distinct, AreFree}
 use Rattle.tx_latch.specs.Lone.{alone, lones}
 use Rattle.tx_latch.proofs.Lists.{Each, Each_map, filter_agree_each, or_false, or_none, eqb_self, same_eqb, contains-append}

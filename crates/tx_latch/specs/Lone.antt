@@ -3,8 +3,8 @@
 use Rattle.std.specs.Prelude.{List, [], ◌∷◌, ◌++◌, map}
 use Rattle.tx_latch.specs.Asked.{Command, Distinct, AreFree}
 use Rattle.tx_latch.specs.Queues.{BetweenCalls, asked_of}
-use Rattle.tx_latch.specs.declared.asked.Lone.{Lone}
-use Rattle.tx_latch.specs.declared.asked.AskedCommands.{AskedCommands}
+use Rattle.tx_latch.specs.declared.asked_commands.Lone.{Lone}
+use Rattle.tx_latch.specs.declared.asked_commands.AskedCommands.{AskedCommands}
 
 -- the command of one slot
 abbrev pub alone : Lone → Command

@@ -2,7 +2,7 @@
 ghost use Rattle.std.specs.Prelude.{◌≡◌, ◌++◌, ◌∷◌, [], ◌↔◌, true, false, IsTrue, IsOk, IfOk, IfErr, OnErr};
 ghost use Rattle.tx_latch.specs.Asked.{is_asked, is_granted, newly_granted, without};
 
-use crate::asked::AskedCommands;
+use crate::asked_commands::AskedCommands;
 use crate::cid::Cid;
 use crate::slot::Slot;
 use std::alloc::Global;

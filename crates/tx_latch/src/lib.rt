@@ -3,7 +3,7 @@
 //! earlier one shares a slot with it.
 #![tactic(auto)]
 
-mod asked;
+mod asked_commands;
 mod cid;
 mod latches;
 mod laws;

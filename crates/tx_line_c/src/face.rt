@@ -6,7 +6,7 @@ ghost use Rattle.tx_script.specs.Players.{HasPlayed, EndWellWith};
 ghost use Rattle.tx_line_store.specs.Lines.{said_text, laid_over, IsPlayed, IsKept};
 ghost use Rattle.tx_line_c.specs.Handles.{owns_store, owns_made, Held, IsHeld, HasBegun};
 
-use crate::held::{OPEN, end, found, made, play, reply};
+use crate::store_calls::{OPEN, end, found, made, play, reply};
 use std::alloc::Global;
 use std::marker::Brand;
 use tx_line_store::LineStore;

@@ -3,6 +3,6 @@
 #![tactic(auto)]
 
 mod face;
-mod held;
+mod store_calls;
 
 pub use face::{txkv_lines_close, txkv_lines_open, txkv_lines_play, txkv_lines_reply};

@@ -5,9 +5,9 @@
 //! specs/Leaves.antt.
 #![tactic(auto)]
 
-mod needed;
+mod premise;
 
-pub use needed::{
+pub use premise::{
     events_are_needed, leavings_are_needed, premise_is_enough, requests_are_needed,
     tables_are_needed,
 };

@@ -28,8 +28,8 @@ use Rattle.tx_core.specs.declared.event.Declaration.{Declaration}
 use Rattle.tx_core.specs.declared.event.Taken.{Taken as TakenOf}
 use Rattle.tx_core.specs.Worlds.{IsWorldRun}
 use Rattle.tx_trace.specs.Traces.{Noted, Traces, Adds}
-use Rattle.tx_trace.specs.declared.taken.Taking.{Taking}
-use Rattle.tx_trace.specs.declared.taken.TakenLog.{TakenLog}
+use Rattle.tx_trace.specs.declared.taken_log.Taking.{Taking}
+use Rattle.tx_trace.specs.declared.taken_log.TakenLog.{TakenLog}
 use Rattle.tx_journal.specs.Replies.{Asked, Given}
 use Rattle.tx_steps.specs.declared.delivery.Delivery.{Delivery}
 use Rattle.tx_steps.specs.declared.delivery.Delivery.TheVariants as deliveries

@@ -3,10 +3,10 @@
 #![tactic(auto)]
 
 mod laws;
-mod left;
-mod noted;
+mod notes;
+mod remainder;
 mod tells;
 
 pub use laws::refused_left_refuses_whole;
-pub use left::left_of;
-pub use noted::note;
+pub use notes::note;
+pub use remainder::left_of;

@@ -14,7 +14,7 @@ use Rattle.tx_plan.specs.Cells.{Lock, Cells, no_cells, info_of}
 use Rattle.tx_plan.specs.Reads.{Blocks, Finds, Reads, Walked, in_range, covered, raised}
 use Rattle.tx_plan.specs.Walks.{KeyRow, AreInOrder, IsWalk}
 use Rattle.tx_plan.specs.declared.view.ReadView.{ReadView}
-use Rattle.tx_plan.specs.declared.planned.PlannedAnswer.TheVariants as planned
+use Rattle.tx_plan.specs.declared.planned_answer.PlannedAnswer.TheVariants as planned
 use Rattle.tx_plan.specs.Plans.{answer_with}
 use Rattle.tx_plan.specs.Views.{ComesNext, IsBlocked, info_on}
 use Rattle.tx_plan.specs.cases.Scan.{GivesRows, MeetsLock}

@@ -3,8 +3,8 @@ use Rattle.std.specs.Prelude.{ℕ, max, Option, Some, None}
 use Rattle.tx_types.specs.declared.lock.LockInfo.{LockInfo}
 use Rattle.tx_plan.specs.declared.answer.Answer.{Answer}
 use Rattle.tx_plan.specs.declared.answer.Answer.TheVariants as answer
-use Rattle.tx_plan.specs.declared.planned.PlannedAnswer.{PlannedAnswer}
-use Rattle.tx_plan.specs.declared.planned.PlannedAnswer.TheVariants.{Given, KeyIsLocked, Locked}
+use Rattle.tx_plan.specs.declared.planned_answer.PlannedAnswer.{PlannedAnswer}
+use Rattle.tx_plan.specs.declared.planned_answer.PlannedAnswer.TheVariants.{Given, KeyIsLocked, Locked}
 use Rattle.tx_plan.specs.Cells.{Region, with_max_read}
 
 -- what is told of a lock that has another minimum from now on

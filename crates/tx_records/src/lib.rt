@@ -4,11 +4,11 @@
 #![tactic(auto)]
 
 mod asked_lock;
-mod derived;
+mod derivation;
 mod heads;
 mod records;
 
 pub use asked_lock::{apart, lock_bytes};
-pub use derived::{commit_record, lock_with_min, lock_with_ttl, marked_record, rollback_record};
+pub use derivation::{commit_record, lock_with_min, lock_with_ttl, marked_record, rollback_record};
 pub use heads::{head_of, kind_of, lock_head_of, seen_in};
 pub use records::{LockBytes, WriteBytes};

@@ -2,7 +2,7 @@
 use Rattle.std.proofs.Common.{◌≡◌, ◌≤◌, ℕ, Option, Some, None, refl, sym, subst}
 use Rattle.std.specs.Prelude.{IfSome, IsSomeAnd, option_map, option_and_then}
 use Rattle.tx_types.specs.declared.key.Key.{Key}
-use Rattle.tx_plan.specs.declared.planned.Plan.{Plan}
+use Rattle.tx_plan.specs.declared.planned_answer.Plan.{Plan}
 use Rattle.tx_plan.specs.Cells.{Region}
 use Rattle.tx_core.specs.Histories.{History, left}
 use Rattle.tx_journal.specs.Known.{greatest_ts}

@@ -29,7 +29,7 @@ use Rattle.tx_plan.specs.declared.answer.Answer.{Answer}
 use Rattle.tx_plan.specs.declared.answer.Answer.TheVariants.{Prewritten}
 use Rattle.tx_plan.specs.declared.key_change.KeyChange.{KeyChange}
 use Rattle.tx_plan.specs.declared.key_change.KeyChange.TheVariants as change
-use Rattle.tx_plan.specs.declared.planned.Plan.{Plan}
+use Rattle.tx_plan.specs.declared.planned_answer.Plan.{Plan}
 use Rattle.tx_plan.specs.Cells.{Lock, Cells, Region, with_cells}
 use Rattle.tx_plan.specs.Answers.{AnswersFrom, leaves, leaves_on}
 use Rattle.tx_plan.specs.Changes.{changed, Applies, new_lock, after_put, put, CanPut}

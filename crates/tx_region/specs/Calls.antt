@@ -5,7 +5,7 @@ use Rattle.tx_plan.specs.declared.body.Body.{Body}
 use Rattle.tx_plan.specs.declared.body.Body.TheVariants.{RaiseSafe, Collect}
 use Rattle.tx_plan.specs.declared.body.Collect.{Collect as CollectBody}
 use Rattle.tx_plan.specs.declared.answer.Answer.{Answer}
-use Rattle.tx_plan.specs.declared.planned.Plan.{Plan}
+use Rattle.tx_plan.specs.declared.planned_answer.Plan.{Plan}
 use Rattle.tx_plan.specs.Cells.{Cells, Region, with_cells}
 use Rattle.tx_plan.specs.Answers.{AnswersFrom, leaves}
 use Rattle.tx_plan.specs.Plans.{answer_with, read_upto}

@@ -8,7 +8,7 @@ use Rattle.tx_plan.specs.declared.body.Body.TheVariants as body
 use Rattle.tx_plan.specs.declared.body.Prewrite.{Prewrite}
 use Rattle.tx_plan.specs.declared.key_change.KeyChange.{KeyChange}
 use Rattle.tx_plan.specs.declared.key_change.KeyChange.TheVariants as change
-use Rattle.tx_plan.specs.declared.planned.Plan.{Plan}
+use Rattle.tx_plan.specs.declared.planned_answer.Plan.{Plan}
 use Rattle.tx_plan.specs.Cells.{Cells, Region, with_cells}
 use Rattle.tx_plan.specs.Answers.{AnswersFrom, leaves}
 use Rattle.tx_plan.specs.Changes.{changed, Applies, new_lock, after_put, CanPut}

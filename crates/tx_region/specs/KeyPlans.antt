@@ -2,7 +2,7 @@
 use Rattle.std.specs.Prelude.{◌≡◌, ◌⊎◌, ℕ, ◌≤◌, List, IfSome, IfNone}
 use Rattle.tx_types.specs.declared.key.Key.{Key}
 use Rattle.tx_plan.specs.declared.answer.Answer.{Answer}
-use Rattle.tx_plan.specs.declared.planned.Plan.{Plan}
+use Rattle.tx_plan.specs.declared.planned_answer.Plan.{Plan}
 use Rattle.tx_plan.specs.Cells.{Region}
 use Rattle.tx_plan.specs.Answers.{AnswersFrom}
 use Rattle.tx_core.specs.declared.event.Event.TheVariants.{Took}

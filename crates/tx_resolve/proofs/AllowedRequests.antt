@@ -14,7 +14,7 @@ use Rattle.tx_core.specs.Allowed.{other_keys, Allowed}
 use Rattle.tx_core.specs.Laws.{IsLockOf}
 use Rattle.tx_core.proofs.Basics.{key_test}
 use Rattle.tx_core.proofs.locks.ToldLocks.{told_lock}
-use Rattle.tx_resolve.specs.declared.found.For.{For}
+use Rattle.tx_resolve.specs.declared.findings.For.{For}
 use Rattle.tx_resolve.specs.Resolution.{check_of, other_of, settle_of}
 use Rattle.tx_resolve.specs.Facts.{Knows, IsPrimarysLock}
 

@@ -10,9 +10,9 @@ use Rattle.tx_journal.specs.Replies.{Asked}
 use Rattle.tx_journal.specs.Senders.{Reached}
 use Rattle.tx_client.specs.Walks.{Walk, Sends, Continues}
 use Rattle.tx_client.proofs.Sends.{sent_then}
-use Rattle.tx_resolve.specs.declared.found.Others.{Others}
-use Rattle.tx_resolve.specs.declared.found.Others.TheVariants as others
-use Rattle.tx_resolve.specs.declared.found.Other.TheVariants as other
+use Rattle.tx_resolve.specs.declared.findings.Others.{Others}
+use Rattle.tx_resolve.specs.declared.findings.Others.TheVariants as others
+use Rattle.tx_resolve.specs.declared.findings.Other.TheVariants as other
 use Rattle.tx_resolve.specs.Resolution.{other_walk, further, others_walk}
 use Rattle.tx_resolve.specs.Facts.{HadLocks}
 use Rattle.tx_resolve.proofs.Greatest.{locks_on, locks_push}

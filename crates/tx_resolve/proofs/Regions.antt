@@ -11,7 +11,7 @@ use Rattle.tx_client.specs.declared.resolved.Status.{Status}
 use Rattle.tx_journal.specs.Senders.{Reached}
 use Rattle.tx_client.specs.Walks.{Walk, Sends, Continues}
 use Rattle.tx_client.proofs.Sends.{sent_then}
-use Rattle.tx_resolve.specs.declared.found.For.TheVariants.{Collector}
+use Rattle.tx_resolve.specs.declared.findings.For.TheVariants.{Collector}
 use Rattle.tx_resolve.specs.Resolution.{resolve_walk}
 use Rattle.tx_resolve.specs.Collection.{on_ok, in_regions, locks_walk}
 

@@ -31,9 +31,9 @@ use Rattle.tx_client.specs.declared.resolved.WaitCause.TheVariants as cause
 use Rattle.tx_client.specs.Facts.{WasAnswered, RespondsSo}
 use Rattle.tx_client.specs.Statuses.{Ends}
 use Rattle.tx_client.proofs.Marks.{taken_there}
-use Rattle.tx_resolve.specs.declared.found.For.{For}
-use Rattle.tx_resolve.specs.declared.found.Others.TheVariants as others
-use Rattle.tx_resolve.specs.declared.found.Other.TheVariants as other
+use Rattle.tx_resolve.specs.declared.findings.For.{For}
+use Rattle.tx_resolve.specs.declared.findings.Others.TheVariants as others
+use Rattle.tx_resolve.specs.declared.findings.Other.TheVariants as other
 use Rattle.tx_resolve.specs.Resolution.{is_over, lets_pass, check_of, other_of, is_async, rests_by, standing_by, primary_by, other_by, status_of, settled_by}
 use Rattle.tx_resolve.specs.Facts.{Knows, IsPrimary, IsOther}
 use Rattle.tx_resolve.proofs.AllowedRequests.{lock_known}

@@ -3,7 +3,7 @@ use Rattle.std.specs.Prelude.{ℕ}
 use Rattle.tx_types.specs.declared.lock.LockInfo.{LockInfo}
 use Rattle.tx_client.specs.declared.resolved.Status.{Status}
 use Rattle.tx_client.specs.Walks.{Walk}
-use Rattle.tx_resolve.specs.declared.found.For.TheVariants.{Reader}
+use Rattle.tx_resolve.specs.declared.findings.For.TheVariants.{Reader}
 use Rattle.tx_resolve.specs.Resolution.{resolve_walk}
 
 -- the read is at a timestamp, and the time is handed in

@@ -8,7 +8,7 @@ use Rattle.tx_plan.specs.declared.body.Body.TheVariants as body
 use Rattle.tx_plan.specs.declared.answer.Answer.TheVariants as answer
 use Rattle.tx_transaction.specs.Returns.{Response}
 use Rattle.tx_client.specs.Walks.{Walk, asks, ends, then_walk}
-use Rattle.tx_resolve.specs.declared.found.For.TheVariants.{Collector}
+use Rattle.tx_resolve.specs.declared.findings.For.TheVariants.{Collector}
 use Rattle.tx_resolve.specs.declared.collector.Counts.{Counts}
 use Rattle.tx_resolve.specs.Resolution.{resolve_walk}
 

@@ -12,12 +12,12 @@ use Rattle.tx_plan.specs.declared.answer.Answer.TheVariants as answer
 use Rattle.tx_transaction.specs.Returns.{Response}
 use Rattle.tx_transaction.specs.declared.state.Miss.TheVariants as miss
 use Rattle.tx_client.specs.Statuses.{Ends}
-use Rattle.tx_resolve.specs.declared.found.Primary.{Primary}
-use Rattle.tx_resolve.specs.declared.found.Primary.TheVariants as primary
-use Rattle.tx_resolve.specs.declared.found.Others.{Others}
-use Rattle.tx_resolve.specs.declared.found.Others.TheVariants as others
-use Rattle.tx_resolve.specs.declared.found.Other.{Other}
-use Rattle.tx_resolve.specs.declared.found.Other.TheVariants as other
+use Rattle.tx_resolve.specs.declared.findings.Primary.{Primary}
+use Rattle.tx_resolve.specs.declared.findings.Primary.TheVariants as primary
+use Rattle.tx_resolve.specs.declared.findings.Others.{Others}
+use Rattle.tx_resolve.specs.declared.findings.Others.TheVariants as others
+use Rattle.tx_resolve.specs.declared.findings.Other.{Other}
+use Rattle.tx_resolve.specs.declared.findings.Other.TheVariants as other
 
 -- what a seat has seen is a world run, which told of the lock that was met
 pub record Knows (bounds : List Key) (h : History) (met : LockInfo) : Type 0 where

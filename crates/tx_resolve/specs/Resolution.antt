@@ -16,14 +16,14 @@ use Rattle.tx_client.specs.declared.resolved.Status.TheVariants as status
 use Rattle.tx_client.specs.declared.resolved.WaitCause.{WaitCause}
 use Rattle.tx_client.specs.declared.resolved.WaitCause.TheVariants as cause
 use Rattle.tx_client.specs.Walks.{Walk, asks, grows, ends, then_walk}
-use Rattle.tx_resolve.specs.declared.found.For.{For}
-use Rattle.tx_resolve.specs.declared.found.For.TheVariants.{Reader, Collector}
-use Rattle.tx_resolve.specs.declared.found.Primary.{Primary}
-use Rattle.tx_resolve.specs.declared.found.Primary.TheVariants as primary
-use Rattle.tx_resolve.specs.declared.found.Others.{Others}
-use Rattle.tx_resolve.specs.declared.found.Others.TheVariants as others
-use Rattle.tx_resolve.specs.declared.found.Other.{Other}
-use Rattle.tx_resolve.specs.declared.found.Other.TheVariants as other
+use Rattle.tx_resolve.specs.declared.findings.For.{For}
+use Rattle.tx_resolve.specs.declared.findings.For.TheVariants.{Reader, Collector}
+use Rattle.tx_resolve.specs.declared.findings.Primary.{Primary}
+use Rattle.tx_resolve.specs.declared.findings.Primary.TheVariants as primary
+use Rattle.tx_resolve.specs.declared.findings.Others.{Others}
+use Rattle.tx_resolve.specs.declared.findings.Others.TheVariants as others
+use Rattle.tx_resolve.specs.declared.findings.Other.{Other}
+use Rattle.tx_resolve.specs.declared.findings.Other.TheVariants as other
 
 -- ---- for whom
 

@@ -16,7 +16,7 @@ ghost use Rattle.tx_client.specs.Walks.{Sends};
 ghost use Rattle.tx_resolve.specs.Collection.{added, raised_by, listed_by, dropped_by, collected_by, raise_walk, raises_walk, list_walk, locks_walk, clear_walk, clears_walk, collect_walk, collects_walk, gc_walk};
 ghost use Rattle.tx_resolve.specs.Facts.{IsToRaise, IsToList, IsToDrop, IsToCollect};
 
-use crate::found::For;
+use crate::findings::For;
 use crate::resolver::resolve_for;
 use tx_client::{Miss, ask};
 use tx_core::{Answer, Body, Collect, Infos, LocksBelow, RaiseSafe, RegionNo};

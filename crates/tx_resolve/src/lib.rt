@@ -3,7 +3,7 @@
 #![tactic(auto)]
 
 mod collector;
-mod found;
+mod findings;
 mod resolver;
 
 pub use collector::{Counts, gc};

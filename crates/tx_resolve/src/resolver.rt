@@ -11,7 +11,7 @@ ghost use Rattle.tx_client.specs.Walks.{Sends};
 ghost use Rattle.tx_resolve.specs.Resolution.{check_of, other_of, settle_of, primary_walk, settle_walk, other_walk, others_walk, after_forced, forced_walk, after_others, expired_walk, after_primary, resolve_walk};
 ghost use Rattle.tx_resolve.specs.Facts.{Knows, IsPrimarysLock, IsPrimary, IsOthers, IsOther};
 
-use crate::found::{For, Other, Others, Primary, other_by, primary_by, settled_by};
+use crate::findings::{For, Other, Others, Primary, other_by, primary_by, settled_by};
 use tx_client::{Resolved, Status, WaitCause, ask};
 use tx_core::{Body, CheckSecondaryLocks, CheckTxnStatus, ResolveLock};
 use tx_journal::{JournalId, Reply, Request, Seat, Sender};

@@ -11,11 +11,11 @@
 #![tactic(auto)]
 
 mod asked;
-mod checked;
 mod line;
+mod line_numbers;
 mod next;
-mod numbered;
 mod player;
+mod run_check;
 mod script;
 mod simulation;
 mod stage;

@@ -11,10 +11,10 @@ ghost use Rattle.tx_script.specs.Numbered.{EndsNumberedLines, BreaksNumberedLine
 ghost use Rattle.tx_script.specs.Loops.{Ahead, BetweenLines, EndsAt, BreaksAt, NumberedAt};
 ghost use Rattle.tx_script.specs.Stages.{NotesStage};
 
-use crate::checked::write_rest;
 use crate::line::Turned;
+use crate::line_numbers::{note_line, write_numbered};
 use crate::next::play_next;
-use crate::numbered::{note_line, write_numbered};
+use crate::run_check::write_rest;
 use std::alloc::Global;
 use std::io::{BufRead, Write};
 use tx_cells::Families;

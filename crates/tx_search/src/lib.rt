@@ -9,9 +9,9 @@ mod lemmas;
 mod net;
 mod pairs;
 mod rounds;
-mod searched;
+mod search;
 mod solver;
 mod trail;
 
 pub use rounds::refutation_of;
-pub use searched::{Sought, search};
+pub use search::{Sought, search};

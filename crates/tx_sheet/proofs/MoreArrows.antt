@@ -4,7 +4,7 @@ use Rattle.std.specs.Prelude.{◌⊎◌, Any, slice_get}
 use Rattle.std.proofs.lemmas.Bool.{cases_lt}
 use Rattle.std.proofs.lemmas.Option.{slice_get_within}
 use Rattle.tx_types.specs.declared.key.Key.{Key}
-use Rattle.tx_trace.specs.declared.taken.Taking.{Taking}
+use Rattle.tx_trace.specs.declared.taken_log.Taking.{Taking}
 use Rattle.tx_sheet.specs.declared.row.Change.{Change}
 use Rattle.tx_sheet.specs.declared.row.Target.{Target}
 use Rattle.tx_sheet.specs.Arrows.{is_locked, went, GoesTo, IsArrow, AreArrows, Gains}

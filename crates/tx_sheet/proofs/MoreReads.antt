@@ -5,7 +5,7 @@ use Rattle.std.proofs.lemmas.Bool.{cases_lt}
 use Rattle.std.proofs.lemmas.Option.{slice_get_within}
 use Rattle.tx_types.specs.declared.key.Key.{Key}
 use Rattle.tx_types.specs.declared.value.Value.{Value}
-use Rattle.tx_trace.specs.declared.taken.Taking.{Taking}
+use Rattle.tx_trace.specs.declared.taken_log.Taking.{Taking}
 use Rattle.tx_sheet.specs.declared.row.KeyRead.{KeyRead}
 use Rattle.tx_sheet.specs.Reads.{found_by, IsReading, IsText, Tells, AreReads, Learns}
 use Rattle.tx_sheet.proofs.Lists.{any_none, any_left, any_last, any_cases, any_more, any_less}

@@ -3,7 +3,7 @@ use Rattle.std.proofs.Common.{◌≡◌, ◌<◌, ◌+◌, ◌++◌, ◌∷◌, 
 use Rattle.std.specs.Prelude.{All, Any, Contains}
 use Rattle.std.proofs.lemmas.List.{drop_more}
 use Rattle.std.proofs.lemmas.List.Elements.{All-nil, All-cons, All-head, All-tail, Contains-get_or}
-use Rattle.tx_sheet.specs.declared.seen.SeenRecord.{SeenRecord}
+use Rattle.tx_sheet.specs.declared.key_state.SeenRecord.{SeenRecord}
 use Rattle.tx_sheet.specs.Changes.{AreOthers}
 
 -- a record that is one, and one that is not

@@ -10,7 +10,7 @@ use Rattle.tx_plan.specs.declared.body.Scan.{Scan}
 use Rattle.tx_plan.specs.declared.target.Target.{Target as To}
 use Rattle.tx_plan.specs.declared.target.Target.TheVariants.{Key, Range, Region}
 use Rattle.tx_plan.specs.Targets.{target}
-use Rattle.tx_trace.specs.declared.taken.Taking.{Taking}
+use Rattle.tx_trace.specs.declared.taken_log.Taking.{Taking}
 use Rattle.tx_sheet.specs.declared.row.Change.{Change}
 use Rattle.tx_sheet.specs.declared.row.Target.{Target}
 

@@ -2,7 +2,7 @@
 use Rattle.std.specs.Prelude.{◌≡◌, ◌≢◌, ◌<◌, ◌⊎◌, ℕ, List, [], ◌∷◌, length, slice_set, slice_index_or, All, AllPairs, Any, Contains, Option, Some, None}
 use Rattle.tx_cells.specs.declared.copies.KeyVersions.{KeyVersions}
 use Rattle.tx_sheet.specs.declared.row.Change.{Change}
-use Rattle.tx_sheet.specs.declared.seen.SeenRecord.{SeenRecord}
+use Rattle.tx_sheet.specs.declared.key_state.SeenRecord.{SeenRecord}
 use Rattle.tx_film.specs.declared.frame.KeyShown.{KeyShown}
 use Rattle.tx_sheet.specs.Seen.{lock_in, records_in, AreAlike}
 

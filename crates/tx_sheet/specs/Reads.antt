@@ -7,7 +7,7 @@ use Rattle.tx_plan.specs.declared.answer.Answer.{Answer}
 use Rattle.tx_plan.specs.declared.answer.Answer.TheVariants.{Found, Nothing, Rows}
 use Rattle.tx_plan.specs.declared.body.Body.{Body}
 use Rattle.tx_plan.specs.declared.body.Body.TheVariants.{Get, Scan}
-use Rattle.tx_trace.specs.declared.taken.Taking.{Taking}
+use Rattle.tx_trace.specs.declared.taken_log.Taking.{Taking}
 use Rattle.tx_sheet.specs.declared.row.KeyRead.{KeyRead}
 use Rattle.tx_sheet.specs.Words.{IsWord}
 

@@ -9,10 +9,10 @@ use Rattle.tx_plan.specs.declared.view.RecordHead.{RecordHead}
 use Rattle.tx_plan.specs.declared.view.RecordHead.TheVariants as head
 use Rattle.tx_cells.specs.declared.copies.RecordAt.{RecordAt}
 use Rattle.tx_cells.specs.declared.copies.KeyVersions.{KeyVersions}
-use Rattle.tx_sheet.specs.declared.seen.Kind.{Kind}
-use Rattle.tx_sheet.specs.declared.seen.Kind.TheVariants as kind
-use Rattle.tx_sheet.specs.declared.seen.SeenLock.{SeenLock}
-use Rattle.tx_sheet.specs.declared.seen.SeenRecord.{SeenRecord}
+use Rattle.tx_sheet.specs.declared.key_state.Kind.{Kind}
+use Rattle.tx_sheet.specs.declared.key_state.Kind.TheVariants as kind
+use Rattle.tx_sheet.specs.declared.key_state.SeenLock.{SeenLock}
+use Rattle.tx_sheet.specs.declared.key_state.SeenRecord.{SeenRecord}
 
 -- what a lock or a record does
 abbrev pub kind_of : LockKind → Kind

@@ -1,11 +1,11 @@
 //! What changed of keys.
 ghost use Rattle.std.specs.Prelude.{◌≡◌, ◌≤◌, ◌++◌, ◌∷◌, ◌↔◌, [], List, All, Any, Contains, IsTrue, IfOk, OnOk, drop, length, option_map};
-ghost use Rattle.tx_sheet.specs.declared.seen.SeenRecord.{SeenRecord as Seen};
+ghost use Rattle.tx_sheet.specs.declared.key_state.SeenRecord.{SeenRecord as Seen};
 ghost use Rattle.tx_sheet.specs.Seen.{AreAlike};
 ghost use Rattle.tx_sheet.specs.Changes.{AreOthers, IsChange, IsQuiet};
 
+use crate::key_state::{SeenLock, SeenRecord, lock_in, records_in};
 use crate::row::Change;
-use crate::seen::{SeenLock, SeenRecord, lock_in, records_in};
 use std::alloc::{AllocError, Global};
 use tx_cells::KeyVersions;
 

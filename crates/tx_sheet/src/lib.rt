@@ -6,12 +6,12 @@
 mod arrows;
 mod change;
 mod changes;
+mod key_state;
 mod machine;
 mod reads;
 mod reason;
 mod reply;
 mod row;
-mod seen;
 mod sessions;
 mod sheet;
 mod signs;
@@ -21,7 +21,7 @@ mod walk;
 mod words;
 
 pub use change::is_same_lock;
+pub use key_state::{Kind, SeenLock, SeenRecord};
 pub use row::{Change, KeyColumn, KeyRead, Row, RowKind, Sending, Session, Sheet, Target};
-pub use seen::{Kind, SeenLock, SeenRecord};
 pub use sheet::sheet_of;
 pub use words::{places, put_first, put_number, put_stamp, shown};

@@ -1,5 +1,5 @@
 //! A script that was played, row by row: what a picture is made of.
-use crate::seen::{SeenLock, SeenRecord};
+use crate::key_state::{SeenLock, SeenRecord};
 
 /// What a line of the script is.
 #[derive(Clone, Copy, Debug, PartialEq, Eq)]

@@ -1,6 +1,6 @@
 //! The values that puts bring to keys.
+use crate::key_state::SeenLock;
 use crate::row::Change;
-use crate::seen::SeenLock;
 use crate::words::shown_bytes;
 use std::alloc::{AllocError, Global};
 use std::mem;

@@ -9,8 +9,8 @@ use Rattle.serde_json.specs.Data.{array, item}
 use Rattle.serde_json.specs.View.{items_of}
 use Rattle.std.specs.Prelude.{option_map}
 use Rattle.tx_text.specs.declared.part.Part.{Part}
-use Rattle.tx_text.specs.declared.listed.ListItem.{ListItem}
-use Rattle.tx_text.specs.declared.listed.ListItem.TheVariants.{Pair, Triple}
+use Rattle.tx_text.specs.declared.row_list.ListItem.{ListItem}
+use Rattle.tx_text.specs.declared.row_list.ListItem.TheVariants.{Pair, Triple}
 use Rattle.tx_text.specs.Parts.{row_data, listed_items}
 use Rattle.tx_text.specs.Scan.{Same, Begins, before, ReadParts, row_lexemes, rows_lexemes, BeginsRow, BeginsRows}
 use Rattle.tx_text.proofs.Lexemes.{bracket_opens, bracket_closes, comma_between}

@@ -6,10 +6,10 @@ use Rattle.serde_json.specs.Read.{read}
 use Rattle.serde_json.specs.View.{view, items_of}
 use Rattle.tx_text.specs.declared.part.Part.{Part}
 use Rattle.tx_text.specs.declared.part.Part.TheVariants.{Text, Number, Null, Other}
-use Rattle.tx_text.specs.declared.listed.ListItem.{ListItem}
-use Rattle.tx_text.specs.declared.listed.ListItem.TheVariants.{Pair, Triple}
-use Rattle.tx_text.specs.declared.listed.Scanned.{Scanned}
-use Rattle.tx_text.specs.declared.listed.Scanned.TheVariants.{Plain, Listed}
+use Rattle.tx_text.specs.declared.row_list.ListItem.{ListItem}
+use Rattle.tx_text.specs.declared.row_list.ListItem.TheVariants.{Pair, Triple}
+use Rattle.tx_text.specs.declared.row_list.Scanned.{Scanned}
+use Rattle.tx_text.specs.declared.row_list.Scanned.TheVariants.{Plain, Listed}
 
 -- the value of a line, as `serde_json` reads it
 abbrev pub json_of : List ℕ → Option Data

@@ -6,8 +6,8 @@ use Rattle.json.specs.Token.{Token, begin_array, end_array}
 use Rattle.json.specs.Lex.{Lexeme, token, comma, between, in_string, lex}
 use Rattle.json.specs.Text.{content, plain, prepend}
 use Rattle.tx_text.specs.declared.part.Part.{Part}
-use Rattle.tx_text.specs.declared.listed.ListItem.{ListItem}
-use Rattle.tx_text.specs.declared.listed.ListItem.TheVariants.{Pair, Triple}
+use Rattle.tx_text.specs.declared.row_list.ListItem.{ListItem}
+use Rattle.tx_text.specs.declared.row_list.ListItem.TheVariants.{Pair, Triple}
 use Rattle.tx_text.specs.Parts.{part_data}
 
 -- within a string, xs goes on as ys past the bytes s, which stand for themselves

@@ -17,7 +17,7 @@ use Rattle.tx_trace.specs.declared.pending.Pending.{Pending}
 use Rattle.tx_trace.specs.declared.pending.Pending.TheVariants as pending
 use Rattle.tx_trace.specs.declared.log.TraceLog.{TraceLog}
 use Rattle.tx_trace.specs.Logs.{Stands, IsLogOf, LogGoesOn, kept_in, Stays as Remains}
-use Rattle.tx_trace.specs.declared.taken.TakenLog.{TakenLog}
+use Rattle.tx_trace.specs.declared.taken_log.TakenLog.{TakenLog}
 use Rattle.tx_trace.specs.Takings.{takings, AreTakings, MayGoOn}
 use Rattle.tx_trace.specs.Traces.{Noted, waits_of, pending_of, noted, kept_of, Traces, Adds, Stays}
 use Rattle.tx_trace.proofs.Requests.{on_ok}

@@ -3,8 +3,8 @@ use Rattle.std.specs.Prelude.{◌≡◌, List, [], ◌∷◌, reverse, Option, I
 use Rattle.tx_core.specs.declared.event.Event.{Event}
 use Rattle.tx_core.specs.declared.event.Event.TheVariants.{Took}
 use Rattle.tx_core.specs.Histories.{History}
-use Rattle.tx_trace.specs.declared.taken.TakenLog.{TakenLog}
-use Rattle.tx_trace.specs.declared.taken.Taking.{Taking}
+use Rattle.tx_trace.specs.declared.taken_log.TakenLog.{TakenLog}
+use Rattle.tx_trace.specs.declared.taken_log.Taking.{Taking}
 
 -- The requests that regions took, each with its answer, newest first.
 abbrev pub takings : History → List Taking

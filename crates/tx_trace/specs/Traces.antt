@@ -12,7 +12,7 @@ use Rattle.tx_core.specs.Worlds.{IsWorldRun}
 use Rattle.tx_trace.specs.declared.pending.Pending.{Pending}
 use Rattle.tx_trace.specs.declared.pending.Pending.TheVariants as pending
 use Rattle.tx_trace.specs.declared.log.TraceLog.{TraceLog}
-use Rattle.tx_trace.specs.declared.taken.TakenLog.{TakenLog}
+use Rattle.tx_trace.specs.declared.taken_log.TakenLog.{TakenLog}
 use Rattle.tx_trace.specs.Takings.{AreTakings}
 use Rattle.tx_trace.specs.Pending.{PendingByStart}
 use Rattle.tx_trace.specs.Logs.{Follows, Checked, Tracks, by_start}

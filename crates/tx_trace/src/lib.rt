@@ -4,8 +4,8 @@
 
 mod log;
 mod pending;
-mod taken;
+mod taken_log;
 mod trace;
 
-pub use taken::Taking;
+pub use taken_log::Taking;
 pub use trace::Trace;

@@ -5,7 +5,7 @@ ghost use Rattle.tx_core.specs.declared.event.Taken.{Taken};
 ghost use Rattle.tx_trace.specs.Traces.{Traces, Adds, Stays};
 
 use crate::log::TraceLog;
-use crate::taken::{TakenLog, Taking, note_took};
+use crate::taken_log::{TakenLog, Taking, note_took};
 use std::alloc::Global;
 use std::marker::Model;
 use tx_core::{Answer, Body, Declaration, Event, Outcome};

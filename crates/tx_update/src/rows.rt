@@ -1,5 +1,5 @@
 //! Rows in the order of their keys, and what is entered over them.
-ghost use Rattle.std.specs.Prelude.{◌≡◌, ◌⊎◌, ◌≤◌, length, reverse, take, Some, option_map, OnOk, IfOk, IfErr, bytes_eq, IsTrue};
+ghost use Rattle.std.specs.Prelude.{◌≡◌, ◌⊎◌, ◌≤◌, length, reverse, take, Some, option_map, OnOk, IfOk, IfErr, IfSome, bytes_eq, IsTrue, false};
 ghost use Rattle.std.specs.List.{prefix_len, list_any};
 ghost use Rattle.tx_types.specs.declared.key.Key.{Key as Name};
 ghost use Rattle.tx_types.specs.declared.value.Value.{Value as Given};
@@ -7,6 +7,7 @@ ghost use Rattle.tx_types.specs.declared.mutation.KeyValue.{KeyValue as Row};
 ghost use Rattle.tx_types.specs.declared.mutation.Change.{Change as Entry};
 ghost use Rattle.tx_types.specs.Fronts.{AreBytes};
 ghost use Rattle.tx_types.specs.Keys.{key_lt, IsRising, value_in};
+ghost use Rattle.tx_types.specs.Lengths.{is_key};
 ghost use Rattle.tx_update.specs.Ranges.{after_prefix, greatest, begin_of, is_in_range, is_first_of, with_value, value_of, AreEntered};
 
 use std::alloc::Global;
@@ -82,6 +83,8 @@ pub struct Page {
 // The least bytes above all that begin with these; none where all of them are 255.
 fn after_prefix(alloc: Global, bytes: &[u8]) -> Result<Option<Vec<u8>>, Fault>
     ensures ok { IfOk result (λ after. option_map (λ v. v.items) after ≡ after_prefix bytes.now) }
+    ensures short { IfOk result
+        (λ after. IfSome after (λ v. (1 ≤ length v.items) × (length v.items ≤ length bytes.now))) }
     ensures err { IfErr result (λ e. e ≡ Fault.OutOfMemory) }
 {
     let [first, rest @ ..] = bytes else {
@@ -145,7 +148,8 @@ impl KeyRange {
     /// ```
     pub fn prefix(alloc: Global, bytes: &[u8]) -> Result<KeyRange, Fault>
         ensures ok { IfOk result (λ range. (range.from ≡ bytes.now) × (range.to ≡ after_prefix bytes.now)) }
-        ensures err { IfErr result (λ e. (e ≡ Fault.KeyLength) ⊎ (e ≡ Fault.OutOfMemory)) }
+        ensures err { IfErr result
+            (λ e. ((e ≡ Fault.KeyLength) × (is_key bytes.now ≡ false)) ⊎ (e ≡ Fault.OutOfMemory)) }
     {
         let from = Key::new(alloc, bytes)?;
         let to = match after_prefix(alloc, bytes)? {

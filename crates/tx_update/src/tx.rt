@@ -17,11 +17,12 @@ use tx_types::{Key, KeyValue, Ts, Value};
 /// let after = tx.range(None, None)?.len();
 /// ```
 pub trait Tx {
-    ghost use Rattle.std.specs.Prelude.{◌≡◌, ◌⊎◌, ℕ, OnOk, OnErr, IfOk, IfErr, Some, None};
+    ghost use Rattle.std.specs.Prelude.{◌≡◌, ◌⊎◌, ℕ, OnOk, OnErr, IfOk, IfErr, Some, None, false};
     ghost use Rattle.tx_types.specs.declared.mutation.Mutation.TheVariants as mutation;
     ghost use Rattle.tx_core.specs.Histories.{History, Begins};
     ghost use Rattle.tx_transaction.specs.Buffers.{Entries, touched, put_over, inserted, locked, buffered, is_full};
     ghost use Rattle.tx_types.specs.declared.fault.Fault.TheVariants as fault;
+    ghost use Rattle.tx_types.specs.Lengths.{is_key};
     ghost use Rattle.tx_update.specs.declared.stops.Stop.TheVariants as stop;
     ghost use Rattle.tx_update.specs.Ranges.{IsRestOf, after_prefix, end_of_page};
     ghost use Rattle.tx_update.specs.Reads.{Finds, FindsEach, FindsRows, FindsRange, FindsLast};
@@ -130,7 +131,7 @@ pub trait Tx {
         ensures finds { IfOk result (λ rows. FindsRange (buffer self.old) (seen self.new) (begins self.old)
             (Some bytes.now) (after_prefix bytes.now) rows.items) }
         ensures err { IfErr result (λ s. IsReadStop loses (seen self.new) (begins self.old) s
-            ⊎ (s ≡ stop.Refused fault.KeyLength)) };
+            ⊎ ((s ≡ stop.Refused fault.KeyLength) × (is_key bytes.now ≡ false))) };
 
     /// The first rows of a range, and what is left of it: about `limit` of them, since it asks for
     /// no more, and what was entered lies over what it is told, as in `range`. Page by page, each

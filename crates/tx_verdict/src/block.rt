@@ -6,7 +6,7 @@ ghost use Rattle.tx_views.specs.Views.{IsViewOf};
 ghost use Rattle.tx_verdict.specs.Facts.{IsTornBy, IsDistinct};
 ghost use Rattle.tx_verdict.specs.Verdicts.{IsWrong};
 
-use crate::seen::owner_of;
+use crate::owners::owner_of;
 use crate::verdict::{Fact, Rule};
 use std::alloc::{AllocError, Global};
 use tx_recording::Recording;

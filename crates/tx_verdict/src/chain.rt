@@ -8,7 +8,7 @@ ghost use Rattle.tx_history.specs.Records.{IsRecorded, writers_of};
 ghost use Rattle.tx_verdict.specs.Reasons.{AddsFirst, IsBased};
 ghost use Rattle.tx_verdict.specs.Forced.{IsLinked, AreWriters};
 
-use crate::seen::{is_by, sees_nothing, sees_writer};
+use crate::owners::{is_by, sees_nothing, sees_writer};
 use crate::versions::{Base, Versions};
 use std::alloc::{AllocError, Global};
 use tx_recording::{Op, Recording};

@@ -11,7 +11,7 @@ ghost use Rattle.tx_verdict.specs.Verdicts.{IsRefused, AreTimestampsOf};
 
 use crate::anomaly::anomaly_of;
 use crate::fit::is_fit;
-use crate::forced::is_forced;
+use crate::necessity::is_forced;
 use crate::question::Question;
 use crate::serial::keeps_level;
 use crate::steps::{beside_of, forbids, is_round, steps_of};

@@ -10,7 +10,7 @@ ghost use Rattle.tx_verdict.specs.Verdicts.{IsWrong};
 
 use crate::block::wrong_block;
 use crate::fit::puts;
-use crate::seen::owner_of;
+use crate::owners::owner_of;
 use crate::verdict::{Fact, Rule};
 use crate::versions::Lost;
 use std::alloc::{AllocError, Global};

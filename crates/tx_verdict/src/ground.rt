@@ -9,8 +9,8 @@ ghost use Rattle.tx_verdict.specs.Reasons.{SawOf, HasMissed, IsBehind};
 ghost use Rattle.tx_verdict.specs.Steps.{IsStep};
 ghost use Rattle.tx_verdict.specs.Refutations.{AreOrders, IsOrdered, IsStepBy};
 
+use crate::owners::{sees_nothing, sees_writer};
 use crate::refutation::Order;
-use crate::seen::{sees_nothing, sees_writer};
 use crate::steps::{step_in_process, step_in_time};
 use crate::stretch::{Stretch, has_written, is_behind_in, is_next_in, is_train};
 use crate::verdict::{CycleStep, Edge};

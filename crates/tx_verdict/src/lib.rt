@@ -5,24 +5,24 @@
 #![tactic(auto)]
 
 mod anomaly;
+mod anti_dependency;
 mod block;
 mod chain;
 mod evidence;
 mod facts;
 mod fit;
-mod forced;
 mod ground;
 mod lemma;
 mod lists;
-mod missed;
+mod necessity;
+mod open_order;
+mod owners;
 mod pairs;
 mod question;
 mod refutation;
-mod seen;
 mod serial;
 mod steps;
 mod stretch;
-mod undecided;
 mod verdict;
 mod versions;
 
@@ -32,9 +32,9 @@ pub use facts::{internal, wrong_update, wrong_views};
 pub use fit::value_of;
 pub use ground::{Behind, Ground};
 pub use lists::{are_lists, wrong_lists};
+pub use open_order::is_undecided;
 pub use question::{Level, Question};
 pub use refutation::{Hint, Lemma, Order, Refutation, Settled, is_refutation};
 pub use stretch::Stretch;
-pub use undecided::is_undecided;
 pub use verdict::{Beside, Cycle, CycleStep, Edge, Fact, Rule, Timestamps, Verdict};
 pub use versions::{Base, Home, Lives, Lost, NO_SPAN, Shown, Versions};

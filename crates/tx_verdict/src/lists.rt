@@ -10,7 +10,7 @@ ghost use Rattle.tx_verdict.specs.Verdicts.{IsWrong};
 
 use crate::block::wrong_block;
 use crate::facts::view_before;
-use crate::seen::owner_of;
+use crate::owners::owner_of;
 use crate::verdict::{Fact, Rule};
 use std::alloc::{AllocError, Global};
 use tx_recording::{Act, Recording};

@@ -9,7 +9,7 @@ ghost use Rattle.tx_verdict.specs.declared.verdict.Edge.TheVariants.{Rw, So, Rt}
 ghost use Rattle.tx_verdict.specs.Forced.{AreForced, key_of};
 ghost use Rattle.tx_verdict.specs.Steps.{IsEdgeFor, IsStep, AreSteps, AreRound, AreApart, AreOfTwo, Forbids, HasStep, Needs};
 
-use crate::missed::anti_dependency;
+use crate::anti_dependency::anti_dependency;
 use crate::pairs::{is_earlier, is_session};
 use crate::question::{Level, Question};
 use crate::verdict::{Beside, CycleStep, Edge};

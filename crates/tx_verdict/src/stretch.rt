@@ -10,7 +10,7 @@ ghost use Rattle.tx_verdict.specs.Refutations.{IsTrain};
 
 use crate::chain::{is_based, is_other};
 use crate::fit::puts;
-use crate::forced::is_known;
+use crate::necessity::is_known;
 use crate::versions::{Base, Versions};
 use std::alloc::{AllocError, Global};
 use tx_recording::Recording;

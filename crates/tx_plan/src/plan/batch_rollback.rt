@@ -13,7 +13,7 @@ use crate::answer::Answer;
 use crate::body::BatchRollback;
 use crate::plan::own::own_lock;
 use crate::plan::rollback::roll_back;
-use crate::planned::Plan;
+use crate::planned_answer::Plan;
 use crate::view::TxnView;
 use tx_types::Ts;
 

@@ -14,7 +14,7 @@ use crate::answer::Answer;
 use crate::body::CheckSecondaryLocks;
 use crate::plan::own::own_lock;
 use crate::plan::rollback::leave_rollback;
-use crate::planned::{Plan, PlannedAnswer};
+use crate::planned_answer::{Plan, PlannedAnswer};
 use crate::view::TxnView;
 use tx_types::Ts;
 

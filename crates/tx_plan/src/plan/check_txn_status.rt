@@ -14,7 +14,7 @@ use crate::body::CheckTxnStatus;
 use crate::key_change::KeyChange;
 use crate::plan::own::{is_rolled_back, own_lock};
 use crate::plan::rollback::roll_back;
-use crate::planned::{Plan, PlannedAnswer};
+use crate::planned_answer::{Plan, PlannedAnswer};
 use crate::view::{LockHead, TxnView};
 use tx_types::{Mode, Ts};
 

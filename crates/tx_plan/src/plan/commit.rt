@@ -13,7 +13,7 @@ use crate::answer::Answer;
 use crate::body::Commit;
 use crate::plan::lock_commit::{commit_lock, commit_refusal};
 use crate::plan::own::{is_rolled_back, own_lock};
-use crate::planned::Plan;
+use crate::planned_answer::Plan;
 use crate::view::TxnView;
 use tx_types::Ts;
 

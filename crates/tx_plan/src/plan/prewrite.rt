@@ -15,7 +15,7 @@ use crate::answer::Answer;
 use crate::body::Prewrite;
 use crate::key_change::{KeyChange, NewLock};
 use crate::plan::own::{is_rolled_back, own_lock};
-use crate::planned::{Plan, PlannedAnswer};
+use crate::planned_answer::{Plan, PlannedAnswer};
 use crate::view::TxnView;
 use tx_types::{Mode, Mutation, Ts};
 

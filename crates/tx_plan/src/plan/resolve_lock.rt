@@ -15,7 +15,7 @@ use crate::body::ResolveLock;
 use crate::plan::lock_commit::{commit_lock, commit_refusal};
 use crate::plan::own::own_lock;
 use crate::plan::rollback::roll_back;
-use crate::planned::Plan;
+use crate::planned_answer::Plan;
 use crate::view::TxnView;
 use tx_types::{Fate, Ts};
 

@@ -15,7 +15,7 @@ use crate::answer::Answer;
 use crate::body::Scan;
 use crate::key_change::KeyChange;
 use crate::plan::reads::{is_blocked, read_refusal};
-use crate::planned::{Plan, PlannedAnswer};
+use crate::planned_answer::{Plan, PlannedAnswer};
 use crate::view::ReadView;
 use crate::walk::ReadWalk;
 use std::alloc::Global;

@@ -47,8 +47,8 @@ use Rattle.tx_script.specs.Players.{IsPlayer, HasPlayed, EndWellWith}
 use Rattle.tx_types.specs.declared.limits.TheConstants.{MAX_LIVE_SESSIONS}
 use Rattle.tx_line_store.specs.contracts.store.LineStore as store
 use Rattle.tx_line_store.proofs.store.LineStore.TheLaws as store_laws
-use Rattle.tx_line_c.specs.contracts.held.end as end
-use Rattle.tx_line_c.proofs.held.end.Met as end_met
+use Rattle.tx_line_c.specs.contracts.store_calls.end as end
+use Rattle.tx_line_c.proofs.store_calls.end.Met as end_met
 use Rattle.tx_line_c.specs.contracts.face.txkv_lines_close as f
 use Rattle.tx_line_c.proofs.face.txkv_lines_close.Statement.{statement}
 use Rattle.tx_line_c.proofs.face.txkv_lines_close.Code as code
@@ -97,7 +97,7 @@ txkv_lines_close_spec {M} 𝓤 𝓛 𝓜 𝓡 wired =
     (glues "tx_line_c::Destruct++none::drop" 𝓡.env (code.calls-tx_line_c::Destruct++none::drop 𝓡.env wired) Z
     LZ M 𝓤 𝓛 𝓜 𝓡) in
     let k₂ = triple_of 𝓛 (end.signature J m jd) (end.spec J m jd 𝓛 𝓜.mem 𝓡.returns) in
-    let known₂ = end_met.met 𝓤 𝓛 𝓜 𝓡 (code.calls-tx_line_c::held::end 𝓡.env wired) J LJ m jd (record {}) in
+    let known₂ = end_met.met 𝓤 𝓛 𝓜 𝓡 (code.calls-tx_line_c::store_calls::end 𝓡.env wired) J LJ m jd (record {}) in
     let En = end.ended J m jd in
     let a = z.0.3.0 in let p : Ptr = z.0.3.1.0 in let g = h₀.state in let R : RattleType = K in
     let Post : Val → SProp 𝓤 = (walk_of 𝓛 f.ended stayed c).post z in

@@ -61,14 +61,14 @@ use Rattle.tx_evidence.specs.Lines.{bounds_of}
 use Rattle.tx_reply.specs.Replies.{reply_words}
 use Rattle.tx_script.specs.Players.{IsPlayer, HasPlayed}
 use Rattle.tx_line_store.specs.Lines.{LinesState}
-use Rattle.tx_line_c.specs.declared.held.Parts.{Parts}
-use Rattle.tx_line_c.specs.contracts.held.Parts as parts
-use Rattle.tx_line_c.proofs.held.Parts.TheLaws as parts_laws
+use Rattle.tx_line_c.specs.declared.store_calls.Parts.{Parts}
+use Rattle.tx_line_c.specs.contracts.store_calls.Parts as parts
+use Rattle.tx_line_c.proofs.store_calls.Parts.TheLaws as parts_laws
 use Rattle.tx_line_c.proofs.Rows.{Z, LZ, J, LJ, jd, dd, dk, X, LX, lets_go}
-use Rattle.tx_line_c.specs.contracts.held.found as find
-use Rattle.tx_line_c.proofs.held.found.Met as find_met
-use Rattle.tx_line_c.specs.contracts.held.made as make
-use Rattle.tx_line_c.proofs.held.made.Met as make_met
+use Rattle.tx_line_c.specs.contracts.store_calls.found as find
+use Rattle.tx_line_c.proofs.store_calls.found.Met as find_met
+use Rattle.tx_line_c.specs.contracts.store_calls.made as make
+use Rattle.tx_line_c.proofs.store_calls.made.Met as make_met
 use Rattle.tx_line_c.specs.contracts.face.txkv_lines_open as f
 use Rattle.tx_line_c.proofs.face.txkv_lines_open.Statement.{statement}
 use Rattle.tx_line_c.proofs.face.txkv_lines_open.Code as code
@@ -161,7 +161,7 @@ txkv_lines_open_spec {M} 𝓤 𝓛 𝓜 𝓡 wired =
     (sym (λ i. eh i ++ (are.1.0.0.0 i ++ (are.1.1.0.0 i ++ [])))) (id⊢ 𝓤 (Run us))) $
     enter ! 𝓣.C 𝓣.Λ fn us Post $ alloc_all ! (λ l. pass_all ! refl
     (fa, ((tt, (tt, (record { fits = are.1.0.0.1.0 }, tt))), ((tt, tt), tt))) $ let Ev = env fn.locals l in
-    calls_at ! (framed 𝓤 H 𝓜 𝓣) k₁ (find_met.met 𝓤 𝓛 𝓜 𝓡 (code.calls-tx_line_c::held::found 𝓡.env wired)) y₁
+    calls_at ! (framed 𝓤 H 𝓜 𝓣) k₁ (find_met.met 𝓤 𝓛 𝓜 𝓡 (code.calls-tx_line_c::store_calls::found 𝓡.env wired)) y₁
     (and_then ! (get ! refl) (and_then ! (get ! refl) (no_more !))) (λ v₁.
     use1 𝓛 (later (some (λ (r : Option Parts). ((‵ (flft κs.0 qs.0) ⊛ ‵ ftrue) ⊛ ‵ (Found.own_val r (v₁ ∷ []))) ⊛
     some (λ (ws : Lasts find.ended y₁.0.0 y₁.0.3). ‵ (lasts find.ended y₁.0.0 y₁.0.3 ws) ⊛
@@ -212,7 +212,7 @@ txkv_lines_open_spec {M} 𝓤 𝓛 𝓜 𝓡 wired =
     use0 𝓛 (raw (fact 𝓤 ([] ⊑ J.lives))) (fact_i 𝓤 ([] ⊑ J.lives) (emp 𝓤) (⊑_static [])) $ join ! $
     move ! (1 ∷ 0 ∷ []) $ use2 𝓛 (raw (k₂.pre y₂)) (id⊢ 𝓤 _) $
     -- [what `made` asks for; at; its token]
-    calls_at ! (framed 𝓤 H 𝓜 𝓣) k₂ (make_met.met 𝓤 𝓛 𝓜 𝓡 (code.calls-tx_line_c::held::made 𝓡.env wired) J LJ m jd
+    calls_at ! (framed 𝓤 H 𝓜 𝓣) k₂ (make_met.met 𝓤 𝓛 𝓜 𝓡 (code.calls-tx_line_c::store_calls::made 𝓡.env wired) J LJ m jd
     (record {})) y₂ (and_then ! (get ! refl) (and_then ! (get ! refl) (and_then ! (get ! refl) (no_more !)))) (λ v₂.
     use1 𝓛 (later (some (λ (r : Made.Denot). ((‵ (flft κs.0 qs.0) ⊛ ‵ (flft [] full_share) ⊛ ‵ ftrue) ⊛
     ‵ (Made.own_val r (v₂ ∷ []))) ⊛ some (λ (ws : Lasts En₂ y₂.0.0 y₂.0.3). ‵ (lasts En₂ y₂.0.0 y₂.0.3 ws) ⊛

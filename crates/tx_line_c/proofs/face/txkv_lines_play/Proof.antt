@@ -47,8 +47,8 @@ use contract.BorrowLft.{◌⊑◌, ⊑_static}
 use denote.Param.{arg, layout}
 use denote.Param.Laws.{arg_laws}
 use denote.RattleType.{RattleType, owns}
-use Rattle.tx_line_c.specs.contracts.held.play as g
-use Rattle.tx_line_c.proofs.held.play.Met.{met}
+use Rattle.tx_line_c.specs.contracts.store_calls.play as g
+use Rattle.tx_line_c.proofs.store_calls.play.Met.{met}
 use Rattle.tx_line_c.specs.contracts.face.txkv_lines_play as f
 use Rattle.tx_line_c.proofs.face.txkv_lines_play.Statement.{statement}
 use Rattle.tx_line_c.proofs.face.txkv_lines_play.Code as code
@@ -91,7 +91,7 @@ txkv_lines_play_spec {M} 𝓤 𝓛 𝓜 𝓡 wired =
     let κs = z.0.0 in let qs = z.0.1 in let a = z.0.3.0 in let p : Ptr = z.0.3.1.0 in let line = z.0.3.1.1.0 in
     let h₀ : Held = z.1 in let m = at_name h₀.name in let R : RattleType = store.the_row brand.the_row m in
     let G = triple_of 𝓛 (g.signature J m jd) (g.spec J m jd 𝓛 𝓜.mem 𝓡.returns) in let En = g.ended J m jd in
-    let known = met 𝓤 𝓛 𝓜 𝓡 (code.calls-tx_line_c::held::play 𝓡.env wired) J LJ m jd (record {}) in
+    let known = met 𝓤 𝓛 𝓜 𝓡 (code.calls-tx_line_c::store_calls::play 𝓡.env wired) J LJ m jd (record {}) in
     let Post : Val → SProp 𝓤 = (walk_of 𝓛 f.ended stayed c).post z in
     let Run : List Val → SProp 𝓤 = λ ws. WpFn 𝓤 H 𝓣.C 𝓣.Λ code.function ws Post in
     qed 𝓛 (((‵ (flft κs.0 qs.0) ⊛ ‵ ftrue) ⊛ ‵ (owns (types_at f.ended.signature.params κs) z.0.3 z.0.4)) ∷

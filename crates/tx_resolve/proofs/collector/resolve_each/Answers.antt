@@ -1,7 +1,7 @@
 use Rattle.std.proofs.Common.{◌+◌, drop, refl}
 use Rattle.tx_resolve.specs.Collection.{locks_walk}
 use Rattle.tx_resolve.specs.Resolution.{resolve_walk}
-use Rattle.tx_resolve.specs.declared.found.For.TheVariants.{Collector}
+use Rattle.tx_resolve.specs.declared.findings.For.TheVariants.{Collector}
 use Rattle.tx_resolve.proofs.Knowledge.{told_on, sent_more}
 use Rattle.tx_resolve.proofs.Others.{next_of}
 use Rattle.tx_resolve.proofs.Regions.{more_resolved}

@@ -2,7 +2,7 @@ use Rattle.std.proofs.Common.{◌≡◌, ◌∙◌, ◌<◌, ◌+◌, List, leng
 use Rattle.tx_types.specs.declared.key.Key.{Key}
 use Rattle.tx_types.specs.declared.lock.LockInfo.{LockInfo}
 use Rattle.tx_client.specs.Walks.{Sends, Continues}
-use Rattle.tx_resolve.specs.declared.found.Other.TheVariants as other
+use Rattle.tx_resolve.specs.declared.findings.Other.TheVariants as other
 use Rattle.tx_resolve.specs.Resolution.{other_walk, others_walk}
 use Rattle.tx_resolve.specs.Facts.{HadLocks}
 use Rattle.tx_resolve.proofs.Knowledge.{sent_more}

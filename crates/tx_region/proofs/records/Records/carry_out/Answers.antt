@@ -1,5 +1,5 @@
 use Rattle.std.proofs.Common.{◌≡◌, refl, subst, arith}
-use Rattle.tx_plan.specs.declared.planned.PlannedAnswer.{PlannedAnswer}
+use Rattle.tx_plan.specs.declared.planned_answer.PlannedAnswer.{PlannedAnswer}
 use Rattle.tx_plan.specs.Plans.{answer_with}
 use Rattle.tx_plan.specs.Views.{info_on}
 use Rattle.tx_region.specs.Regions.{region_of}

@@ -1,5 +1,0 @@
-use Rattle.std.proofs.Common.{◌≡◌, take}
-use Rattle.tx_trace.proofs.taken.infos_of.Given as goal
-
-abbrev pub invariant-infos : goal.invariant-infos
-invariant-infos l = l.copy ≡ take l.info-index l.info-items
