@@ -1,6 +1,6 @@
 //! What an example is, how it is run, and how what it shows ends.
 use std::alloc::Global;
-use tx_answers::{CycleForm, ImportEnd, ImportOptions, import};
+use tx_answers::{AnswerOptions, CycleForm, ImportEnd, import};
 use tx_cells::Fresh;
 use tx_check::{check, check_with_reason};
 use tx_flat::FlatCells;
@@ -80,7 +80,7 @@ fn numbers<F: Fresh>(alloc: Global, text: &[u8], written: &mut Vec<u8>) -> Optio
 }
 
 /// A verdict by its line, with no order, and nothing more.
-const ONE_LINE: ImportOptions = ImportOptions {
+const ONE_LINE: AnswerOptions = AnswerOptions {
     question: Question {
         level: Level::Snapshot,
         orders: NO_ORDER,
@@ -91,12 +91,12 @@ const ONE_LINE: ImportOptions = ImportOptions {
     budget: 20_000,
 };
 
-const ORDERED: ImportOptions = ImportOptions {
+const ORDERED: AnswerOptions = AnswerOptions {
     question: IN_ORDER,
     ..ONE_LINE
 };
 
-const SERIAL: ImportOptions = ImportOptions {
+const SERIAL: AnswerOptions = AnswerOptions {
     question: Question {
         level: Level::Serializable,
         orders: BOTH_ORDERS,
@@ -104,18 +104,18 @@ const SERIAL: ImportOptions = ImportOptions {
     ..ONE_LINE
 };
 
-const TO_THE_END: ImportOptions = ImportOptions {
+const TO_THE_END: AnswerOptions = AnswerOptions {
     question: IN_ORDER,
     all: true,
     ..ONE_LINE
 };
 
-const AS_PICTURE: ImportOptions = ImportOptions {
+const AS_PICTURE: AnswerOptions = AnswerOptions {
     form: CycleForm::Picture,
     ..ONE_LINE
 };
 
-const ON_PAGE: ImportOptions = ImportOptions {
+const ON_PAGE: AnswerOptions = AnswerOptions {
     form: CycleForm::Page,
     ..TO_THE_END
 };
@@ -123,7 +123,7 @@ const ON_PAGE: ImportOptions = ImportOptions {
 // Judges a history. How it ended, unless it broke off; that the verdict is open, its line says.
 fn judges(
     alloc: Global,
-    options: ImportOptions,
+    options: AnswerOptions,
     text: &[u8],
     written: &mut Vec<u8>,
 ) -> Option<End> {
@@ -137,8 +137,8 @@ fn judges(
 }
 
 // Whether the answer to a history that a trace was asked of is no yes, or a trace that is a run.
-fn is_traced(alloc: Global, options: ImportOptions, text: &[u8]) -> Option<bool> {
-    let asked = ImportOptions {
+fn is_traced(alloc: Global, options: AnswerOptions, text: &[u8]) -> Option<bool> {
+    let asked = AnswerOptions {
         trace: true,
         ..options
     };
@@ -156,7 +156,7 @@ fn is_traced(alloc: Global, options: ImportOptions, text: &[u8]) -> Option<bool>
 // The same as `judges`; none where it is a yes whose trace is no run.
 fn judges_traced(
     alloc: Global,
-    options: ImportOptions,
+    options: AnswerOptions,
     text: &[u8],
     written: &mut Vec<u8>,
 ) -> Option<End> {

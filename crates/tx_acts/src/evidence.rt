@@ -8,12 +8,17 @@ ghost use Rattle.tx_acts.specs.Shown.{behind_at, behind_text, ops_with, did_text
 use crate::ops::{few_ops, op_line, ops_at, transaction_at};
 use crate::transaction::{put_known_process, put_line, put_number};
 use std::alloc::{AllocError, Global};
-use tx_import::History;
-use tx_recording::Op;
-use tx_verdict::{CycleStep, Edge, Fact};
+use tx_import::NamedHistory;
+use tx_recording::RecordedOp;
+use tx_verdict::{CycleStep, EdgeKind, Fact};
 
 // Appends an operation, behind others.
-fn put_behind(alloc: Global, out: &mut Vec<u8>, history: &History, op: Op) -> Result<(), AllocError>
+fn put_behind(
+    alloc: Global,
+    out: &mut Vec<u8>,
+    history: &NamedHistory,
+    op: RecordedOp,
+) -> Result<(), AllocError>
     ensures { OnOk result (out.new.items ≡ out.old.items ++ (codes ", " ++ op_line history.now op)) }
 {
     let line = op_line(alloc, history, op)?;
@@ -25,8 +30,8 @@ fn put_behind(alloc: Global, out: &mut Vec<u8>, history: &History, op: Op) -> Re
 fn put_behind_at(
     alloc: Global,
     out: &mut Vec<u8>,
-    history: &History,
-    ops: &[Op],
+    history: &NamedHistory,
+    ops: &[RecordedOp],
     place: usize,
 ) -> Result<(), AllocError>
     requires { place < length ops.now }
@@ -39,8 +44,8 @@ fn put_behind_at(
 fn put_all(
     alloc: Global,
     out: &mut Vec<u8>,
-    history: &History,
-    ops: &[Op],
+    history: &NamedHistory,
+    ops: &[RecordedOp],
 ) -> Result<(), AllocError>
     ensures { OnOk result (out.new.items ≡ out.old.items ++ behind_text history.now ops.now) }
 {
@@ -51,7 +56,12 @@ fn put_all(
 }
 
 // The first eight operations of a transaction with a key.
-fn ops_with(alloc: Global, history: &History, txn: u32, key: u32) -> Result<Vec<Op>, AllocError>
+fn ops_with(
+    alloc: Global,
+    history: &NamedHistory,
+    txn: u32,
+    key: u32,
+) -> Result<Vec<RecordedOp>, AllocError>
     ensures { IfOk result (λ ops. ops.items ≡ ops_with history.now txn key) }
 {
     few_ops(alloc, &[key], ops_at(history, txn))
@@ -61,7 +71,7 @@ fn ops_with(alloc: Global, history: &History, txn: u32, key: u32) -> Result<Vec<
 fn put_with(
     alloc: Global,
     out: &mut Vec<u8>,
-    history: &History,
+    history: &NamedHistory,
     txn: u32,
     key: u32,
 ) -> Result<(), AllocError>
@@ -75,7 +85,7 @@ fn put_with(
 fn put_did(
     alloc: Global,
     out: &mut Vec<u8>,
-    history: &History,
+    history: &NamedHistory,
     txn: u32,
     key: Option<u32>,
 ) -> Result<(), AllocError>
@@ -88,7 +98,7 @@ fn put_did(
 }
 
 // Appends the process of a transaction, where it has one.
-fn put_process_of(out: &mut Vec<u8>, history: &History, txn: u32) -> Result<(), AllocError>
+fn put_process_of(out: &mut Vec<u8>, history: &NamedHistory, txn: u32) -> Result<(), AllocError>
     ensures { OnOk result (out.new.items ≡ out.old.items
         ++ process_text history.now (transaction_at history.now.recording txn).process) }
 {
@@ -97,7 +107,7 @@ fn put_process_of(out: &mut Vec<u8>, history: &History, txn: u32) -> Result<(), 
 }
 
 // Appends when a transaction ended, where that is told.
-fn put_end_of(out: &mut Vec<u8>, history: &History, txn: u32) -> Result<(), AllocError>
+fn put_end_of(out: &mut Vec<u8>, history: &NamedHistory, txn: u32) -> Result<(), AllocError>
     ensures { OnOk result (out.new.items ≡ out.old.items
         ++ number_text (codes ", end ") (transaction_at history.now.recording txn).ended) }
 {
@@ -106,7 +116,7 @@ fn put_end_of(out: &mut Vec<u8>, history: &History, txn: u32) -> Result<(), Allo
 }
 
 // Appends when a transaction began, where that is told.
-fn put_start_of(out: &mut Vec<u8>, history: &History, txn: u32) -> Result<(), AllocError>
+fn put_start_of(out: &mut Vec<u8>, history: &NamedHistory, txn: u32) -> Result<(), AllocError>
     ensures { OnOk result (out.new.items ≡ out.old.items
         ++ number_text (codes ", start ") (transaction_at history.now.recording txn).began) }
 {
@@ -118,19 +128,19 @@ fn put_start_of(out: &mut Vec<u8>, history: &History, txn: u32) -> Result<(), Al
 fn put_first(
     alloc: Global,
     out: &mut Vec<u8>,
-    history: &History,
-    edge: Edge,
+    history: &NamedHistory,
+    edge: EdgeKind,
     txn: u32,
     key: Option<u32>,
 ) -> Result<(), AllocError>
     ensures { OnOk result (out.new.items ≡ out.old.items ++ first_text history.now edge txn key) }
 {
     match edge {
-        Edge::Ww => put_did(alloc, out, history, txn, key),
-        Edge::Wr => put_did(alloc, out, history, txn, key),
-        Edge::Rw => put_did(alloc, out, history, txn, key),
-        Edge::So => put_process_of(out, history, txn),
-        Edge::Rt => put_end_of(out, history, txn),
+        EdgeKind::Ww => put_did(alloc, out, history, txn, key),
+        EdgeKind::Wr => put_did(alloc, out, history, txn, key),
+        EdgeKind::Rw => put_did(alloc, out, history, txn, key),
+        EdgeKind::So => put_process_of(out, history, txn),
+        EdgeKind::Rt => put_end_of(out, history, txn),
     }
 }
 
@@ -138,19 +148,19 @@ fn put_first(
 fn put_second(
     alloc: Global,
     out: &mut Vec<u8>,
-    history: &History,
-    edge: Edge,
+    history: &NamedHistory,
+    edge: EdgeKind,
     txn: u32,
     key: Option<u32>,
 ) -> Result<(), AllocError>
     ensures { OnOk result (out.new.items ≡ out.old.items ++ second_text history.now edge txn key) }
 {
     match edge {
-        Edge::Ww => put_did(alloc, out, history, txn, key),
-        Edge::Wr => put_did(alloc, out, history, txn, key),
-        Edge::Rw => put_did(alloc, out, history, txn, key),
-        Edge::So => put_process_of(out, history, txn),
-        Edge::Rt => put_start_of(out, history, txn),
+        EdgeKind::Ww => put_did(alloc, out, history, txn, key),
+        EdgeKind::Wr => put_did(alloc, out, history, txn, key),
+        EdgeKind::Rw => put_did(alloc, out, history, txn, key),
+        EdgeKind::So => put_process_of(out, history, txn),
+        EdgeKind::Rt => put_start_of(out, history, txn),
     }
 }
 
@@ -159,7 +169,7 @@ fn put_second(
 pub fn put_shown(
     alloc: Global,
     out: &mut Vec<u8>,
-    history: &History,
+    history: &NamedHistory,
     step: CycleStep,
 ) -> Result<(), AllocError>
     ensures { OnOk result (out.new.items ≡ out.old.items ++ shown_text history.now step) }
@@ -175,7 +185,7 @@ pub fn put_shown(
 fn put_beside(
     alloc: Global,
     out: &mut Vec<u8>,
-    history: &History,
+    history: &NamedHistory,
     key: u32,
     txn: u32,
 ) -> Result<(), AllocError>
@@ -191,7 +201,7 @@ fn put_beside(
 fn put_other(
     alloc: Global,
     out: &mut Vec<u8>,
-    history: &History,
+    history: &NamedHistory,
     key: u32,
     by: Option<u32>,
 ) -> Result<(), AllocError>
@@ -208,7 +218,7 @@ fn put_other(
 pub fn put_read_shown(
     alloc: Global,
     out: &mut Vec<u8>,
-    history: &History,
+    history: &NamedHistory,
     fact: Fact,
 ) -> Result<(), AllocError>
     ensures { OnOk result (out.new.items ≡ out.old.items ++ read_shown history.now fact) }

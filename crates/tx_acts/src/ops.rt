@@ -4,12 +4,12 @@ ghost use Rattle.tx_recording.specs.Recordings.{transaction_at};
 ghost use Rattle.tx_acts.specs.Ops.{value_text, value_at, values_text, seen_text, last_six, last_text, found_text, found_by, did_words, act_text, op_text, is_inner, begins_at, cut_at, shortened, op_line, is_in, keyed_ops, first_ops, shown_ops, range_of, ops_at};
 
 use std::alloc::{AllocError, Global};
-use tx_import::History;
-use tx_recording::{Act, Op, Outcome, Recording, Span, Transaction};
+use tx_import::NamedHistory;
+use tx_recording::{Act, RecordedOp, RecordedOutcome, RecordedTransaction, Recording, Span};
 use tx_verdict_text::{put_key, put_value};
 
 // Appends a value behind a space.
-fn put_one(out: &mut Vec<u8>, history: &History, value: u32) -> Result<(), AllocError>
+fn put_one(out: &mut Vec<u8>, history: &NamedHistory, value: u32) -> Result<(), AllocError>
     ensures { OnOk result (out.new.items ≡ out.old.items ++ value_text history.now value) }
 {
     out.extend_from_slice(b" ")?;
@@ -19,7 +19,7 @@ fn put_one(out: &mut Vec<u8>, history: &History, value: u32) -> Result<(), Alloc
 // Appends the value at a place.
 fn put_value_at(
     out: &mut Vec<u8>,
-    history: &History,
+    history: &NamedHistory,
     values: &[u32],
     place: usize,
 ) -> Result<(), AllocError>
@@ -30,7 +30,7 @@ fn put_value_at(
 }
 
 // Appends values.
-fn put_values(out: &mut Vec<u8>, history: &History, values: &[u32]) -> Result<(), AllocError>
+fn put_values(out: &mut Vec<u8>, history: &NamedHistory, values: &[u32]) -> Result<(), AllocError>
     ensures { OnOk result (out.new.items ≡ out.old.items ++ values_text history.now values.now) }
 {
     for i in 0..values.len() {
@@ -40,7 +40,7 @@ fn put_values(out: &mut Vec<u8>, history: &History, values: &[u32]) -> Result<()
 }
 
 // Appends what was read, where it is not much.
-fn put_seen(out: &mut Vec<u8>, history: &History, values: &[u32]) -> Result<(), AllocError>
+fn put_seen(out: &mut Vec<u8>, history: &NamedHistory, values: &[u32]) -> Result<(), AllocError>
     ensures { OnOk result (out.new.items ≡ out.old.items ++ seen_text history.now values.now) }
 {
     if values.len() == 0 {
@@ -58,7 +58,7 @@ fn last_six(values: &[u32]) -> &[u32]
 }
 
 // Appends the last values of a read.
-fn put_last(out: &mut Vec<u8>, history: &History, values: &[u32]) -> Result<(), AllocError>
+fn put_last(out: &mut Vec<u8>, history: &NamedHistory, values: &[u32]) -> Result<(), AllocError>
     ensures { OnOk result (out.new.items ≡ out.old.items ++ last_text history.now values.now) }
 {
     out.extend_from_slice(b" ..")?;
@@ -66,7 +66,7 @@ fn put_last(out: &mut Vec<u8>, history: &History, values: &[u32]) -> Result<(), 
 }
 
 // Appends what was read: of much the last.
-fn put_found(out: &mut Vec<u8>, history: &History, values: &[u32]) -> Result<(), AllocError>
+fn put_found(out: &mut Vec<u8>, history: &NamedHistory, values: &[u32]) -> Result<(), AllocError>
     ensures { OnOk result (out.new.items ≡ out.old.items ++ found_text history.now values.now) }
 {
     if values.len() <= 6 {
@@ -76,7 +76,7 @@ fn put_found(out: &mut Vec<u8>, history: &History, values: &[u32]) -> Result<(),
 }
 
 // The values of a read, where they are there.
-fn found_by(history: &History, span: Span) -> &[u32]
+fn found_by(history: &NamedHistory, span: Span) -> &[u32]
     ensures { result.now ≡ found_by history.now span }
 {
     let first = span.first as usize;
@@ -89,7 +89,12 @@ fn found_by(history: &History, span: Span) -> &[u32]
 }
 
 // Appends what was done with a key, of which the words follow.
-fn put_did(out: &mut Vec<u8>, history: &History, word: &[u8], key: u32) -> Result<(), AllocError>
+fn put_did(
+    out: &mut Vec<u8>,
+    history: &NamedHistory,
+    word: &[u8],
+    key: u32,
+) -> Result<(), AllocError>
     ensures { OnOk result (out.new.items ≡ out.old.items ++ did_words history.now word.now key) }
 {
     out.extend_from_slice(word)?;
@@ -98,7 +103,12 @@ fn put_did(out: &mut Vec<u8>, history: &History, word: &[u8], key: u32) -> Resul
 }
 
 // Appends that a value was appended.
-fn put_append(out: &mut Vec<u8>, history: &History, key: u32, value: u32) -> Result<(), AllocError>
+fn put_append(
+    out: &mut Vec<u8>,
+    history: &NamedHistory,
+    key: u32,
+    value: u32,
+) -> Result<(), AllocError>
     ensures { OnOk result (out.new.items ≡ out.old.items ++ act_text history.now key (Act.Append value)) }
 {
     put_did(out, history, b"append ", key)?;
@@ -106,7 +116,12 @@ fn put_append(out: &mut Vec<u8>, history: &History, key: u32, value: u32) -> Res
 }
 
 // Appends that a value was written.
-fn put_write(out: &mut Vec<u8>, history: &History, key: u32, value: u32) -> Result<(), AllocError>
+fn put_write(
+    out: &mut Vec<u8>,
+    history: &NamedHistory,
+    key: u32,
+    value: u32,
+) -> Result<(), AllocError>
     ensures { OnOk result (out.new.items ≡ out.old.items ++ act_text history.now key (Act.Write value)) }
 {
     put_did(out, history, b"write ", key)?;
@@ -114,7 +129,12 @@ fn put_write(out: &mut Vec<u8>, history: &History, key: u32, value: u32) -> Resu
 }
 
 // Appends what was read.
-fn put_read(out: &mut Vec<u8>, history: &History, key: u32, span: Span) -> Result<(), AllocError>
+fn put_read(
+    out: &mut Vec<u8>,
+    history: &NamedHistory,
+    key: u32,
+    span: Span,
+) -> Result<(), AllocError>
     ensures { OnOk result (out.new.items ≡ out.old.items ++ act_text history.now key (Act.Read span)) }
 {
     put_did(out, history, b"read ", key)?;
@@ -122,7 +142,7 @@ fn put_read(out: &mut Vec<u8>, history: &History, key: u32, span: Span) -> Resul
 }
 
 // Appends an operation.
-fn put_op(out: &mut Vec<u8>, history: &History, op: Op) -> Result<(), AllocError>
+fn put_op(out: &mut Vec<u8>, history: &NamedHistory, op: RecordedOp) -> Result<(), AllocError>
     ensures { OnOk result (out.new.items ≡ out.old.items ++ op_text history.now op) }
 {
     match op.act {
@@ -192,7 +212,7 @@ fn put_shortened(out: &mut Vec<u8>, text: &[u8]) -> Result<(), AllocError>
 }
 
 // An operation in words.
-fn op_words(alloc: Global, history: &History, op: Op) -> Result<Vec<u8>, AllocError>
+fn op_words(alloc: Global, history: &NamedHistory, op: RecordedOp) -> Result<Vec<u8>, AllocError>
     ensures { IfOk result (λ text. text.items ≡ op_text history.now op) }
 {
     let mut text = Vec::new(alloc);
@@ -201,7 +221,7 @@ fn op_words(alloc: Global, history: &History, op: Op) -> Result<Vec<u8>, AllocEr
 }
 
 /// An operation, in at most 58 bytes.
-pub fn op_line(alloc: Global, history: &History, op: Op) -> Result<Vec<u8>, AllocError>
+pub fn op_line(alloc: Global, history: &NamedHistory, op: RecordedOp) -> Result<Vec<u8>, AllocError>
     ensures { IfOk result (λ line. line.items ≡ op_line history.now op) }
 {
     let text = op_words(alloc, history, op)?;
@@ -223,7 +243,11 @@ fn is_in(keys: &[u32], key: u32) -> bool
 }
 
 // Adds the operations with one of the keys.
-fn put_keyed(found: &mut Vec<Op>, keys: &[u32], ops: &[Op]) -> Result<(), AllocError>
+fn put_keyed(
+    found: &mut Vec<RecordedOp>,
+    keys: &[u32],
+    ops: &[RecordedOp],
+) -> Result<(), AllocError>
     ensures { OnOk result (found.new.items ≡ found.old.items ++ keyed_ops keys.now ops.now) }
 {
     for i in 0..ops.len() {
@@ -236,14 +260,14 @@ fn put_keyed(found: &mut Vec<Op>, keys: &[u32], ops: &[Op]) -> Result<(), AllocE
 }
 
 // The first eight of these operations.
-fn first_ops(ops: &[Op]) -> &[Op]
+fn first_ops(ops: &[RecordedOp]) -> &[RecordedOp]
     ensures { result.now ≡ first_ops ops.now }
 {
     if ops.len() <= 8 { ops } else { &ops[..8] }
 }
 
 // The operations with one of the keys.
-fn keyed_ops(alloc: Global, keys: &[u32], ops: &[Op]) -> Result<Vec<Op>, AllocError>
+fn keyed_ops(alloc: Global, keys: &[u32], ops: &[RecordedOp]) -> Result<Vec<RecordedOp>, AllocError>
     ensures { IfOk result (λ found. found.items ≡ keyed_ops keys.now ops.now) }
 {
     let mut found = Vec::new(alloc);
@@ -252,7 +276,7 @@ fn keyed_ops(alloc: Global, keys: &[u32], ops: &[Op]) -> Result<Vec<Op>, AllocEr
 }
 
 // The same operations.
-fn same_ops(alloc: Global, ops: &[Op]) -> Result<Vec<Op>, AllocError>
+fn same_ops(alloc: Global, ops: &[RecordedOp]) -> Result<Vec<RecordedOp>, AllocError>
     ensures { IfOk result (λ same. same.items ≡ ops.now) }
 {
     let mut same = Vec::new(alloc);
@@ -261,7 +285,11 @@ fn same_ops(alloc: Global, ops: &[Op]) -> Result<Vec<Op>, AllocError>
 }
 
 /// The first eight operations with one of the keys.
-pub(crate) fn few_ops(alloc: Global, keys: &[u32], ops: &[Op]) -> Result<Vec<Op>, AllocError>
+pub(crate) fn few_ops(
+    alloc: Global,
+    keys: &[u32],
+    ops: &[RecordedOp],
+) -> Result<Vec<RecordedOp>, AllocError>
     ensures { IfOk result (λ few. few.items ≡ first_ops (keyed_ops keys.now ops.now)) }
 {
     let keyed = keyed_ops(alloc, keys, ops)?;
@@ -269,7 +297,11 @@ pub(crate) fn few_ops(alloc: Global, keys: &[u32], ops: &[Op]) -> Result<Vec<Op>
 }
 
 /// Those of the operations that are shown where these keys matter.
-pub fn shown_ops(alloc: Global, keys: &[u32], ops: &[Op]) -> Result<Vec<Op>, AllocError>
+pub fn shown_ops(
+    alloc: Global,
+    keys: &[u32],
+    ops: &[RecordedOp],
+) -> Result<Vec<RecordedOp>, AllocError>
     ensures { IfOk result (λ shown. shown.items ≡ shown_ops keys.now ops.now) }
 {
     if ops.len() <= 8 {
@@ -279,7 +311,7 @@ pub fn shown_ops(alloc: Global, keys: &[u32], ops: &[Op]) -> Result<Vec<Op>, All
 }
 
 // A range of operations, where it is there.
-fn range_of(ops: &[Op], first: u32, upto: u32) -> &[Op]
+fn range_of(ops: &[RecordedOp], first: u32, upto: u32) -> &[RecordedOp]
     ensures { result.now ≡ range_of ops.now first upto }
 {
     let (first, upto) = (first as usize, upto as usize);
@@ -291,7 +323,7 @@ fn range_of(ops: &[Op], first: u32, upto: u32) -> &[Op]
 }
 
 /// The operations of a transaction, where they are there.
-pub fn ops_at(history: &History, txn: u32) -> &[Op]
+pub fn ops_at(history: &NamedHistory, txn: u32) -> &[RecordedOp]
     ensures { result.now ≡ ops_at history.now txn }
 {
     let transaction = transaction_at(&history.recording, txn);
@@ -303,14 +335,14 @@ pub fn ops_at(history: &History, txn: u32) -> &[Op]
 }
 
 /// A transaction; past the last one that did nothing.
-pub(crate) fn transaction_at(recording: &Recording, txn: u32) -> Transaction
+pub(crate) fn transaction_at(recording: &Recording, txn: u32) -> RecordedTransaction
     ensures { result ≡ transaction_at recording.now txn }
 {
     match recording.transactions.get(txn as usize) {
         Some(transaction) => *transaction,
-        None => Transaction {
+        None => RecordedTransaction {
             id: 0,
-            outcome: Outcome::Fail,
+            outcome: RecordedOutcome::Fail,
             process: None,
             began: None,
             ended: None,

@@ -4,8 +4,8 @@ ghost use Rattle.tx_acts.specs.About.{line_word, outcome_text, process_text, num
 
 use crate::ops::{ops_at, transaction_at};
 use std::alloc::{AllocError, Global};
-use tx_import::History;
-use tx_recording::{Outcome, Transaction};
+use tx_import::NamedHistory;
+use tx_recording::{RecordedOutcome, RecordedTransaction};
 use tx_text::put_digits;
 use tx_verdict_text::put_process;
 
@@ -25,25 +25,25 @@ pub(crate) fn put_line(out: &mut Vec<u8>, txn: u32) -> Result<(), AllocError>
 }
 
 // How a transaction ended.
-fn outcome_text(outcome: Outcome) -> &'static str
+fn outcome_text(outcome: RecordedOutcome) -> &'static str
     ensures { result.now ≡ outcome_text outcome }
 {
     match outcome {
-        Outcome::Ok => ", ok",
-        Outcome::Fail => ", fail",
-        Outcome::Info => ", info",
+        RecordedOutcome::Ok => ", ok",
+        RecordedOutcome::Fail => ", fail",
+        RecordedOutcome::Info => ", info",
     }
 }
 
 // Appends how a transaction ended.
-fn put_outcome(out: &mut Vec<u8>, outcome: Outcome) -> Result<(), AllocError>
+fn put_outcome(out: &mut Vec<u8>, outcome: RecordedOutcome) -> Result<(), AllocError>
     ensures { OnOk result (out.new.items ≡ out.old.items ++ outcome_text outcome) }
 {
     out.extend_from_slice(outcome_text(outcome).as_bytes())
 }
 
 // Appends a process.
-fn put_by(out: &mut Vec<u8>, history: &History, process: u32) -> Result<(), AllocError>
+fn put_by(out: &mut Vec<u8>, history: &NamedHistory, process: u32) -> Result<(), AllocError>
     ensures { OnOk result (out.new.items ≡ out.old.items ++ process_text history.now (Option.Some process)) }
 {
     out.extend_from_slice(b", process ")?;
@@ -53,7 +53,7 @@ fn put_by(out: &mut Vec<u8>, history: &History, process: u32) -> Result<(), Allo
 /// Appends a process, where there is one.
 pub(crate) fn put_known_process(
     out: &mut Vec<u8>,
-    history: &History,
+    history: &NamedHistory,
     process: Option<u32>,
 ) -> Result<(), AllocError>
     ensures { OnOk result (out.new.items ≡ out.old.items ++ process_text history.now process) }
@@ -89,8 +89,8 @@ pub(crate) fn put_number(
 // Appends how a transaction ended, who ran it, and when.
 fn put_ended(
     out: &mut Vec<u8>,
-    history: &History,
-    transaction: Transaction,
+    history: &NamedHistory,
+    transaction: RecordedTransaction,
 ) -> Result<(), AllocError>
     ensures { OnOk result (out.new.items ≡ out.old.items ++ ended_text history.now transaction) }
 {
@@ -131,9 +131,9 @@ fn put_few(out: &mut Vec<u8>, shown: usize, all: usize) -> Result<(), AllocError
 // What is said of a transaction, by its line and its operations.
 fn said_of(
     alloc: Global,
-    history: &History,
+    history: &NamedHistory,
     txn: u32,
-    transaction: Transaction,
+    transaction: RecordedTransaction,
     shown: usize,
     all: usize,
 ) -> Result<Vec<u8>, AllocError>
@@ -150,7 +150,7 @@ fn said_of(
 /// ran it and when.
 pub fn about(
     alloc: Global,
-    history: &History,
+    history: &NamedHistory,
     txn: u32,
     shown: usize,
 ) -> Result<Vec<u8>, AllocError>

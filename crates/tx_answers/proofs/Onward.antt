@@ -3,23 +3,23 @@ use Rattle.std.proofs.Common.{◌≡◌, ℕ, Bool, true, false, List, [], ◌�
 use Rattle.std.specs.Prelude.{cond, ◌||◌}
 use Rattle.tx_recording.specs.declared.recording.Recording.{Recording}
 use Rattle.tx_recording.specs.Recordings.{txns_of, ops_of}
-use Rattle.tx_verdict.specs.declared.verdict.Verdict.{Verdict}
+use Rattle.tx_verdict.specs.declared.verdict.HistoryVerdict.{HistoryVerdict}
 use Rattle.tx_verdict.specs.Verdicts.{IsVerdict}
-use Rattle.tx_import.specs.declared.reader.History.{History}
+use Rattle.tx_import.specs.declared.reader.NamedHistory.{NamedHistory}
 use Rattle.tx_onward.specs.Tells.{tells, told_by}
 use Rattle.tx_onward.specs.Left.{without, IsLeft}
-use Rattle.tx_answers.specs.declared.answer.ImportOptions.{ImportOptions}
+use Rattle.tx_answers.specs.declared.answer.AnswerOptions.{AnswerOptions}
 use Rattle.tx_answers.specs.declared.answer.ImportEnd.{ImportEnd}
 use Rattle.tx_answers.specs.Texts.{end_of}
 use Rattle.tx_answers.specs.All.{IsNext, TellsNoMore, AreNext, is_none, IsOneOf, IsTextOfAll, end_of_all, IsAllOf}
 
 -- where there is a verdict, the end is that of the oldest
-abbrev pub EndsAs : List Verdict → ImportEnd → Type 0
+abbrev pub EndsAs : List HistoryVerdict → ImportEnd → Type 0
 EndsAs [] end = Unit {0}
 EndsAs (v ∷ vs) end = end ≡ end_of_all v vs
 
-pub record IsSoFar (options : ImportOptions) (h : History) (told : List Bool) (text : List ℕ) (end : ImportEnd)
-    (is_first : Bool) (vs : List Verdict) : Type 0 where
+pub record IsSoFar (options : AnswerOptions) (h : NamedHistory) (told : List Bool) (text : List ℕ) (end : ImportEnd)
+    (is_first : Bool) (vs : List HistoryVerdict) : Type 0 where
   pub next : AreNext h.recording options.question vs
   pub told_of : (t : ℕ) → get_or told t false ≡ told_by h.recording vs t
   pub count : length told ≡ txns_of h.recording
@@ -27,8 +27,8 @@ pub record IsSoFar (options : ImportOptions) (h : History) (told : List Bool) (t
   pub first : is_first ≡ is_none vs
   pub ends : EndsAs vs end
 
-abbrev pub SoFar : ImportOptions → History → List Bool → List ℕ → ImportEnd → Bool → Type 0
-SoFar options h told text end is_first = (vs : List Verdict) × IsSoFar options h told text end is_first vs
+abbrev pub SoFar : AnswerOptions → NamedHistory → List Bool → List ℕ → ImportEnd → Bool → Type 0
+SoFar options h told text end is_first = (vs : List HistoryVerdict) × IsSoFar options h told text end is_first vs
 
 -- what is left is what those before it have left
 pub left_by : (r left : Recording) (f g : ℕ → Bool) → ((t : ℕ) → f t ≡ g t) → IsLeft r f left → IsLeft r g left
@@ -42,15 +42,15 @@ left_by r left f g same l = record {
 }
 
 -- the end with one verdict more
-pub ends_with : (vs : List Verdict) (v : Verdict) (end : ImportEnd) → EndsAs vs end
+pub ends_with : (vs : List HistoryVerdict) (v : HistoryVerdict) (end : ImportEnd) → EndsAs vs end
     → cond (is_none vs) (end_of v) end ≡ end_of_all v vs
 ends_with [] v end e = refl
 ends_with (w ∷ ws) v end e = e
 
 -- a verdict that is of what is left
-pub is_next : (options : ImportOptions) (h : History) (told : List Bool) (text : List ℕ) (end : ImportEnd)
+pub is_next : (options : AnswerOptions) (h : NamedHistory) (told : List Bool) (text : List ℕ) (end : ImportEnd)
     (is_first : Bool)
-    (vs : List Verdict) (left : Recording) (v : Verdict) → IsSoFar options h told text end is_first vs
+    (vs : List HistoryVerdict) (left : Recording) (v : HistoryVerdict) → IsSoFar options h told text end is_first vs
     → IsLeft h.recording (λ t. get_or told t false) left → IsVerdict left options.question v
     → IsNext h.recording options.question vs v
 is_next options h told text end is_first vs left v s l verdict =
@@ -61,24 +61,25 @@ or_true true = refl
 or_true false = refl
 
 -- the text with one verdict more
-pub said_with : {options : ImportOptions} {h : History} {told : List Bool} {text : List ℕ} {end : ImportEnd}
+pub said_with : {options : AnswerOptions} {h : NamedHistory} {told : List Bool} {text : List ℕ} {end : ImportEnd}
     {is_first : Bool}
-    {vs : List Verdict} (v : Verdict) (one more : List ℕ) → IsSoFar options h told text end is_first vs
+    {vs : List HistoryVerdict} (v : HistoryVerdict) (one more : List ℕ) → IsSoFar options h told text end is_first vs
     → IsOneOf options h is_first v one → more ≡ text ++ one → IsTextOfAll options h (v ∷ vs) more
 said_with {options} {h} {told} {text} v one more s o e =
     (text, one, s.said, subst (λ b. IsOneOf options h b v one) s.first o, e)
 
 -- the end with one verdict more
-pub end_so : {options : ImportOptions} {h : History} {told : List Bool} {text : List ℕ} {end : ImportEnd}
+pub end_so : {options : AnswerOptions} {h : NamedHistory} {told : List Bool} {text : List ℕ} {end : ImportEnd}
     {is_first : Bool}
-    {vs : List Verdict} (v : Verdict) (new : ImportEnd) → IsSoFar options h told text end is_first vs
+    {vs : List HistoryVerdict} (v : HistoryVerdict) (new : ImportEnd) → IsSoFar options h told text end is_first vs
     → new ≡ cond is_first (end_of v) end → new ≡ end_of_all v vs
 end_so {end = end} {vs = vs} v new s e =
     e ∙ subst (λ b. cond b (end_of v) end ≡ end_of_all v vs) (sym s.first) (ends_with vs v end s.ends)
 
 -- a verdict that tells of none but those that were told of is the last
-pub done : (options : ImportOptions) (h : History) (told after : List Bool) (text more : List ℕ) (end new : ImportEnd)
-    (is_first : Bool) (left : Recording) (v : Verdict) → SoFar options h told text end is_first
+pub done : (options : AnswerOptions) (h : NamedHistory) (told after : List Bool) (text more : List ℕ)
+    (end new : ImportEnd)
+    (is_first : Bool) (left : Recording) (v : HistoryVerdict) → SoFar options h told text end is_first
     → IsLeft h.recording (λ t. get_or told t false) left → IsVerdict left options.question v
     → ((one : List ℕ) × IsOneOf options h is_first v one × (more ≡ text ++ one))
     → new ≡ cond is_first (end_of v) end
@@ -100,9 +101,9 @@ done options h told after text more end new is_first left v (vs, s) l verdict (o
     )
 
 -- one that tells of one more is followed by what comes of what is left then
-pub more_so : (options : ImportOptions) (h : History) (told after : List Bool) (text more : List ℕ)
+pub more_so : (options : AnswerOptions) (h : NamedHistory) (told after : List Bool) (text more : List ℕ)
     (end new : ImportEnd)
-    (is_first : Bool) (left : Recording) (v : Verdict) → SoFar options h told text end is_first
+    (is_first : Bool) (left : Recording) (v : HistoryVerdict) → SoFar options h told text end is_first
     → IsLeft h.recording (λ t. get_or told t false) left → IsVerdict left options.question v
     → ((one : List ℕ) × IsOneOf options h is_first v one × (more ≡ text ++ one))
     → new ≡ cond is_first (end_of v) end
@@ -127,7 +128,7 @@ more_so options h told after text more end new is_first left v (vs, s) l verdict
     )
 
 -- before the first verdict
-pub nothing_told : (options : ImportOptions) (h : History) (told : List Bool) (text : List ℕ) (end : ImportEnd)
+pub nothing_told : (options : AnswerOptions) (h : NamedHistory) (told : List Bool) (text : List ℕ) (end : ImportEnd)
     → ((t : ℕ) → get_or told t false ≡ false) → length told ≡ txns_of h.recording → text ≡ []
     → SoFar options h told text end true
 nothing_told options h told text end none count empty = (

@@ -8,44 +8,44 @@ ghost use Rattle.tx_onward.specs.Untold.{untold};
 ghost use Rattle.tx_answers.specs.Texts.{end_of as end_of_verdict};
 ghost use Rattle.tx_answers.specs.All.{IsOneOf, IsAllOf};
 
-use crate::answer::{Answer, ImportEnd, ImportOptions, answer_text, end_of};
+use crate::answer::{Answer, AnswerOptions, ImportEnd, answer_text, end_of};
 use crate::sentences::{SIGN, sentences};
 use std::alloc::{AllocError, Global};
-use tx_import::History;
+use tx_import::NamedHistory;
 use tx_judge::judge;
 use tx_onward::{left_of, note};
 use tx_recording::Recording;
 use tx_text::Broken;
-use tx_verdict::Verdict;
+use tx_verdict::HistoryVerdict;
 
 // What is written of a verdict that stands behind a no: nothing of a yes.
 fn later_text(
     alloc: Global,
-    options: ImportOptions,
-    history: &History,
-    verdict: &Verdict,
+    options: AnswerOptions,
+    history: &NamedHistory,
+    verdict: &HistoryVerdict,
 ) -> Result<Vec<u8>, Broken>
     requires { IsRecording history.now.recording }
     ensures { IfOk result (λ text. IsOneOf options history.now false verdict.now text.items) }
 {
     match verdict {
-        Verdict::Yes(_) => Ok(Vec::new(alloc)),
-        Verdict::No(_) => answer_text(alloc, options, history, verdict),
-        Verdict::Refuted(_) => answer_text(alloc, options, history, verdict),
-        Verdict::Fact(_) => answer_text(alloc, options, history, verdict),
-        Verdict::Open(_) => answer_text(alloc, options, history, verdict),
-        Verdict::Unknown => answer_text(alloc, options, history, verdict),
-        Verdict::Twice(..) => answer_text(alloc, options, history, verdict),
+        HistoryVerdict::Yes(_) => Ok(Vec::new(alloc)),
+        HistoryVerdict::No(_) => answer_text(alloc, options, history, verdict),
+        HistoryVerdict::Refuted(_) => answer_text(alloc, options, history, verdict),
+        HistoryVerdict::Fact(_) => answer_text(alloc, options, history, verdict),
+        HistoryVerdict::Open(_) => answer_text(alloc, options, history, verdict),
+        HistoryVerdict::Unknown => answer_text(alloc, options, history, verdict),
+        HistoryVerdict::Twice(..) => answer_text(alloc, options, history, verdict),
     }
 }
 
 // What is written of a verdict: nothing of a yes that stands behind a no.
 fn one_text(
     alloc: Global,
-    options: ImportOptions,
-    history: &History,
+    options: AnswerOptions,
+    history: &NamedHistory,
     is_first: bool,
-    verdict: &Verdict,
+    verdict: &HistoryVerdict,
 ) -> Result<Vec<u8>, Broken>
     requires { IsRecording history.now.recording }
     ensures { IfOk result (λ text. IsOneOf options history.now is_first verdict.now text.items) }
@@ -58,7 +58,7 @@ fn one_text(
 }
 
 // How all of it ends: as the first verdict does.
-fn end_with(is_first: bool, end: ImportEnd, verdict: &Verdict) -> ImportEnd
+fn end_with(is_first: bool, end: ImportEnd, verdict: &HistoryVerdict) -> ImportEnd
     ensures { result ≡ cond is_first (end_of_verdict verdict.now) end }
 {
     if is_first { end_of(verdict) } else { end }
@@ -68,10 +68,10 @@ fn end_with(is_first: bool, end: ImportEnd, verdict: &Verdict) -> ImportEnd
 fn put_one(
     alloc: Global,
     answer: &mut Answer,
-    options: ImportOptions,
-    history: &History,
+    options: AnswerOptions,
+    history: &NamedHistory,
     is_first: bool,
-    verdict: &Verdict,
+    verdict: &HistoryVerdict,
 ) -> Result<(), Broken>
     requires { IsRecording history.now.recording }
     ensures text { OnOk result ((one : List ℕ) × IsOneOf options history.now is_first verdict.now one
@@ -106,7 +106,7 @@ fn nobody(alloc: Global, recording: &Recording) -> Result<Vec<bool>, AllocError>
 }
 
 // Notes of whom a verdict tells. Whether one of them was not told of before.
-fn note_all(told: &mut Vec<bool>, recording: &Recording, verdict: &Verdict) -> bool
+fn note_all(told: &mut Vec<bool>, recording: &Recording, verdict: &HistoryVerdict) -> bool
     requires recording { IsRecording recording.now }
     requires count { length told.old.items ≡ txns_of recording.now }
     ensures count { length told.new.items ≡ length told.old.items }
@@ -123,8 +123,8 @@ fn note_all(told: &mut Vec<bool>, recording: &Recording, verdict: &Verdict) -> b
 /// What is said of a history that was read: each no in turn, each of what those before have left.
 pub(crate) fn judged_to_end(
     alloc: Global,
-    options: ImportOptions,
-    history: &History,
+    options: AnswerOptions,
+    history: &NamedHistory,
 ) -> Result<Answer, Broken>
     requires recording { IsRecording history.now.recording }
     requires in_turn { AreInTurn history.now.recording.transactions.items }

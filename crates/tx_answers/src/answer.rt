@@ -23,11 +23,11 @@ use std::io::{BufRead, Write};
 use tx_diagram::{
     cycle_drawing, cycle_picture, read_drawing, read_picture, refuted_drawing, refuted_picture,
 };
-use tx_import::{History, LineFault, Misrecorded, bare_of, find_misrecorded, read_history};
+use tx_import::{LineFault, Misrecorded, NamedHistory, bare_of, find_misrecorded, read_history};
 use tx_judge::judge;
 use tx_text::{Broken, finish, put_fault, send};
 use tx_types::Cause;
-use tx_verdict::{Cycle, Fact, Question, Refutation, Timestamps, Verdict};
+use tx_verdict::{Cycle, Fact, HistoryVerdict, Question, Refutation, Timestamps};
 use tx_verdict_text::verdict_line;
 
 /// How a no is told: its cycle, its refutation, or its read that cannot be.
@@ -44,7 +44,7 @@ pub enum CycleForm {
 
 /// What is asked of a history.
 #[derive(Clone, Copy, Debug, PartialEq, Eq)]
-pub struct ImportOptions {
+pub struct AnswerOptions {
     pub question: Question,
     /// Whether a yes is told by a trace that `tx_check` judges, in place of its line.
     pub trace: bool,
@@ -83,14 +83,15 @@ pub(crate) struct Answer {
 }
 
 /// How a verdict ends.
-pub(crate) fn end_of(verdict: &Verdict) -> ImportEnd
+pub(crate) fn end_of(verdict: &HistoryVerdict) -> ImportEnd
     ensures { result ≡ end_of verdict.now }
 {
     match verdict {
-        Verdict::Yes(_) => ImportEnd::Yes,
-        Verdict::No(_) | Verdict::Refuted(_) | Verdict::Fact(_) => ImportEnd::No,
-        Verdict::Open(_) | Verdict::Unknown => ImportEnd::Open,
-        Verdict::Twice(..) => ImportEnd::Faulted,
+        HistoryVerdict::Yes(_) => ImportEnd::Yes,
+        HistoryVerdict::No(_) | HistoryVerdict::Refuted(_) | HistoryVerdict::Fact(_) =>
+            ImportEnd::No,
+        HistoryVerdict::Open(_) | HistoryVerdict::Unknown => ImportEnd::Open,
+        HistoryVerdict::Twice(..) => ImportEnd::Faulted,
     }
 }
 
@@ -108,8 +109,8 @@ fn remark(alloc: Global, line: &[u8]) -> Result<Vec<u8>, AllocError>
 fn noted(
     alloc: Global,
     form: CycleForm,
-    history: &History,
-    verdict: &Verdict,
+    history: &NamedHistory,
+    verdict: &HistoryVerdict,
 ) -> Result<Vec<u8>, Broken>
     ensures { IfOk result (λ text. text.items ≡ noted_text form (verdict_text history.now verdict.now)) }
 {
@@ -124,8 +125,8 @@ fn noted(
 fn traced(
     alloc: Global,
     form: CycleForm,
-    history: &History,
-    verdict: &Verdict,
+    history: &NamedHistory,
+    verdict: &HistoryVerdict,
     timestamps: &Timestamps,
 ) -> Result<Vec<u8>, Broken>
     requires { IsRecording history.now.recording }
@@ -142,11 +143,11 @@ fn traced(
 fn cycle_text(
     alloc: Global,
     form: CycleForm,
-    history: &History,
-    verdict: &Verdict,
+    history: &NamedHistory,
+    verdict: &HistoryVerdict,
     cycle: &Cycle,
 ) -> Result<Vec<u8>, Broken>
-    requires { verdict.now ≡ Verdict.No cycle.now }
+    requires { verdict.now ≡ HistoryVerdict.No cycle.now }
     ensures { IfOk result (λ text. text.items ≡ cycle_text form history.now cycle.now) }
 {
     match form {
@@ -160,11 +161,11 @@ fn cycle_text(
 fn refuted_text(
     alloc: Global,
     form: CycleForm,
-    history: &History,
-    verdict: &Verdict,
+    history: &NamedHistory,
+    verdict: &HistoryVerdict,
     refutation: &Refutation,
 ) -> Result<Vec<u8>, Broken>
-    requires { verdict.now ≡ Verdict.Refuted refutation.now }
+    requires { verdict.now ≡ HistoryVerdict.Refuted refutation.now }
     ensures { IfOk result (λ text. text.items ≡ refuted_text form history.now refutation.now) }
 {
     match form {
@@ -178,11 +179,11 @@ fn refuted_text(
 fn read_text(
     alloc: Global,
     form: CycleForm,
-    history: &History,
-    verdict: &Verdict,
+    history: &NamedHistory,
+    verdict: &HistoryVerdict,
     fact: Fact,
 ) -> Result<Vec<u8>, Broken>
-    requires { verdict.now ≡ Verdict.Fact fact }
+    requires { verdict.now ≡ HistoryVerdict.Fact fact }
     ensures { IfOk result (λ text. text.items ≡ read_text form history.now fact) }
 {
     match form {
@@ -205,25 +206,27 @@ fn is_page(form: CycleForm) -> bool
 // What is written of a verdict but on a page.
 fn plain_text(
     alloc: Global,
-    options: ImportOptions,
-    history: &History,
-    verdict: &Verdict,
+    options: AnswerOptions,
+    history: &NamedHistory,
+    verdict: &HistoryVerdict,
 ) -> Result<Vec<u8>, Broken>
     requires { IsRecording history.now.recording }
     ensures { IfOk result (λ text. IsPlain options history.now verdict.now text.items) }
 {
     let form = options.form;
     match verdict {
-        Verdict::Yes(timestamps) if options.trace => {
+        HistoryVerdict::Yes(timestamps) if options.trace => {
             traced(alloc, form, history, verdict, timestamps)
         }
-        Verdict::No(cycle) => cycle_text(alloc, form, history, verdict, cycle),
-        Verdict::Refuted(refutation) => refuted_text(alloc, form, history, verdict, refutation),
-        Verdict::Fact(fact) => read_text(alloc, form, history, verdict, *fact),
-        Verdict::Yes(_) => noted(alloc, form, history, verdict),
-        Verdict::Open(_) => noted(alloc, form, history, verdict),
-        Verdict::Unknown => noted(alloc, form, history, verdict),
-        Verdict::Twice(..) => Ok(verdict_line(alloc, history, verdict)?),
+        HistoryVerdict::No(cycle) => cycle_text(alloc, form, history, verdict, cycle),
+        HistoryVerdict::Refuted(refutation) => refuted_text(
+            alloc, form, history, verdict, refutation,
+        ),
+        HistoryVerdict::Fact(fact) => read_text(alloc, form, history, verdict, *fact),
+        HistoryVerdict::Yes(_) => noted(alloc, form, history, verdict),
+        HistoryVerdict::Open(_) => noted(alloc, form, history, verdict),
+        HistoryVerdict::Unknown => noted(alloc, form, history, verdict),
+        HistoryVerdict::Twice(..) => Ok(verdict_line(alloc, history, verdict)?),
     }
 }
 
@@ -231,9 +234,9 @@ fn plain_text(
 fn text_in(
     alloc: Global,
     paged: bool,
-    options: ImportOptions,
-    history: &History,
-    verdict: &Verdict,
+    options: AnswerOptions,
+    history: &NamedHistory,
+    verdict: &HistoryVerdict,
 ) -> Result<Vec<u8>, Broken>
     requires { IsRecording history.now.recording }
     ensures { IfOk result (λ text. IsTextIn paged options history.now verdict.now text.items) }
@@ -247,9 +250,9 @@ fn text_in(
 /// What is written of a verdict.
 pub(crate) fn answer_text(
     alloc: Global,
-    options: ImportOptions,
-    history: &History,
-    verdict: &Verdict,
+    options: AnswerOptions,
+    history: &NamedHistory,
+    verdict: &HistoryVerdict,
 ) -> Result<Vec<u8>, Broken>
     requires { IsRecording history.now.recording }
     ensures { IfOk result (λ text. IsTextOf options history.now verdict.now text.items) }
@@ -259,7 +262,11 @@ pub(crate) fn answer_text(
 }
 
 // What is said of a history that was read, by one verdict.
-fn judged_once(alloc: Global, options: ImportOptions, history: &History) -> Result<Answer, Broken>
+fn judged_once(
+    alloc: Global,
+    options: AnswerOptions,
+    history: &NamedHistory,
+) -> Result<Answer, Broken>
     requires { IsRecording history.now.recording }
     ensures { IfOk result (λ answer. IsOne options history.now answer.text.items answer.end) }
 {
@@ -271,7 +278,11 @@ fn judged_once(alloc: Global, options: ImportOptions, history: &History) -> Resu
 }
 
 // What is said of a history that was read: all to the end, or one verdict.
-fn judged_to(alloc: Global, options: ImportOptions, history: &History) -> Result<Answer, Broken>
+fn judged_to(
+    alloc: Global,
+    options: AnswerOptions,
+    history: &NamedHistory,
+) -> Result<Answer, Broken>
     requires recording { IsRecording history.now.recording }
     requires in_turn { AreInTurn history.now.recording.transactions.items }
     ensures { IfOk result (λ answer. IsSaidTo options.all options history.now answer.text.items answer.end) }
@@ -298,7 +309,7 @@ fn on_page(alloc: Global, paged: bool, answer: Answer) -> Result<Answer, AllocEr
 }
 
 // What is said of a history that was read.
-fn judged(alloc: Global, options: ImportOptions, history: &History) -> Result<Answer, Broken>
+fn judged(alloc: Global, options: AnswerOptions, history: &NamedHistory) -> Result<Answer, Broken>
     requires recording { IsRecording history.now.recording }
     requires in_turn { AreInTurn history.now.recording.transactions.items }
     ensures { IfOk result (λ answer. IsSaid options history.now answer.text.items answer.end) }
@@ -324,7 +335,11 @@ fn faulted(alloc: Global, fault: LineFault) -> Result<Answer, Broken>
 }
 
 // What is said of a history of which nothing wrong was found.
-fn heard_bare(alloc: Global, options: ImportOptions, history: History) -> Result<Answer, Broken>
+fn heard_bare(
+    alloc: Global,
+    options: AnswerOptions,
+    history: NamedHistory,
+) -> Result<Answer, Broken>
     requires recording { IsRecording history.recording }
     requires in_turn { AreInTurn history.recording.transactions.items }
     requires timely { IsTimely history.recording }
@@ -336,7 +351,7 @@ fn heard_bare(alloc: Global, options: ImportOptions, history: History) -> Result
 }
 
 // What is said of a history, unless its recorder got something wrong.
-fn heard(alloc: Global, options: ImportOptions, history: History) -> Result<Answer, Broken>
+fn heard(alloc: Global, options: AnswerOptions, history: NamedHistory) -> Result<Answer, Broken>
     requires recording { IsRecording history.recording }
     requires in_turn { AreInTurn history.recording.transactions.items }
     ensures { IfOk result (λ answer. IsHeard options history answer.text.items answer.end) }
@@ -348,7 +363,7 @@ fn heard(alloc: Global, options: ImportOptions, history: History) -> Result<Answ
 }
 
 // What is said of what a recorder got wrong.
-fn misread(alloc: Global, history: &History, wrong: Misrecorded) -> Result<Answer, Broken>
+fn misread(alloc: Global, history: &NamedHistory, wrong: Misrecorded) -> Result<Answer, Broken>
     ensures text { IfOk result (λ answer. answer.text.items
         ≡ reply_text (line_of_wrong wrong, fault_words Cause.Form)) }
     ensures end { IfOk result (λ answer. answer.end ≡ ImportEnd.Faulted) }
@@ -378,7 +393,7 @@ fn line_of(wrong: Misrecorded) -> u64
 // What is said of the lines.
 fn answer_of<R: BufRead>(
     alloc: Global,
-    options: ImportOptions,
+    options: AnswerOptions,
     reader: &mut R,
 ) -> Result<Answer, Broken>
     ensures { IfOk result (λ answer. IfSome (R.remaining reader.old)
@@ -410,7 +425,7 @@ fn write_out<W: Write>(writer: &mut W, text: &[u8]) -> Result<(), Broken>
 /// growth was refused.
 pub fn import<R: BufRead, W: Write>(
     alloc: Global,
-    options: ImportOptions,
+    options: AnswerOptions,
     reader: &mut R,
     writer: &mut W,
 ) -> Result<Answered, Broken>

@@ -12,4 +12,4 @@ mod sentences;
 mod steps;
 mod trace;
 
-pub use answer::{Answered, CycleForm, ImportEnd, ImportOptions, import};
+pub use answer::{AnswerOptions, Answered, CycleForm, ImportEnd, import};

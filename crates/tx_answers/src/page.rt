@@ -6,23 +6,27 @@ use crate::frame::{PAGE_FOOT, PAGE_HEAD};
 use crate::sentences::sentences;
 use std::alloc::{AllocError, Global};
 use tx_diagram::{cycle_picture, read_picture, refuted_pictures};
-use tx_import::History;
+use tx_import::NamedHistory;
 use tx_ring::put_text;
-use tx_verdict::{Level, Verdict};
+use tx_verdict::{HistoryVerdict, Level};
 use tx_verdict_text::verdict_line;
 
 // The pictures of a no.
-fn pictures(alloc: Global, history: &History, verdict: &Verdict) -> Result<Vec<u8>, AllocError>
+fn pictures(
+    alloc: Global,
+    history: &NamedHistory,
+    verdict: &HistoryVerdict,
+) -> Result<Vec<u8>, AllocError>
     ensures { IfOk result (λ text. text.items ≡ pictures_text history.now verdict.now) }
 {
     match verdict {
-        Verdict::No(cycle) => cycle_picture(alloc, history, cycle),
-        Verdict::Refuted(refutation) => refuted_pictures(alloc, history, refutation),
-        Verdict::Fact(fact) => read_picture(alloc, history, *fact),
-        Verdict::Yes(_) => Ok(Vec::new(alloc)),
-        Verdict::Open(_) => Ok(Vec::new(alloc)),
-        Verdict::Unknown => Ok(Vec::new(alloc)),
-        Verdict::Twice(..) => Ok(Vec::new(alloc)),
+        HistoryVerdict::No(cycle) => cycle_picture(alloc, history, cycle),
+        HistoryVerdict::Refuted(refutation) => refuted_pictures(alloc, history, refutation),
+        HistoryVerdict::Fact(fact) => read_picture(alloc, history, *fact),
+        HistoryVerdict::Yes(_) => Ok(Vec::new(alloc)),
+        HistoryVerdict::Open(_) => Ok(Vec::new(alloc)),
+        HistoryVerdict::Unknown => Ok(Vec::new(alloc)),
+        HistoryVerdict::Twice(..) => Ok(Vec::new(alloc)),
     }
 }
 
@@ -61,9 +65,9 @@ fn section_of(
 /// A verdict on a page.
 pub(crate) fn section(
     alloc: Global,
-    history: &History,
+    history: &NamedHistory,
     level: Level,
-    verdict: &Verdict,
+    verdict: &HistoryVerdict,
 ) -> Result<Vec<u8>, AllocError>
     ensures { IfOk result (λ text. IsSection history.now verdict.now text.items) }
 {

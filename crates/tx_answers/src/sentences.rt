@@ -1,10 +1,12 @@
 //! Why a verdict is one, in sentences for who reads them: one an edge of a cycle.
 use std::alloc::{AllocError, Global};
 use tx_acts::{put_read_shown, put_shown};
-use tx_import::{History, Misrecorded};
-use tx_recording::Outcome;
+use tx_import::{Misrecorded, NamedHistory};
+use tx_recording::RecordedOutcome;
 use tx_text::put_digits;
-use tx_verdict::{CycleStep, Edge, Fact, Hint, Lemma, Level, Order, Refutation, Rule, Verdict};
+use tx_verdict::{
+    CycleStep, EdgeKind, Fact, Hint, HistoryVerdict, Lemma, Level, Refutation, Rule, WriteOrder,
+};
 use tx_verdict_text::{put_id, put_key, put_value};
 
 /// What a line on standard error begins with.
@@ -14,7 +16,7 @@ pub(crate) const SIGN: &str = "txkv: ";
 #[derive(Drop)]
 struct Sentence<'a> {
     alloc: Global,
-    history: &'a History,
+    history: &'a NamedHistory,
     level: Level,
     // What each line begins with.
     sign: &'static str,
@@ -49,16 +51,16 @@ impl<'a> Sentence<'a> {
     // What an edge of a cycle says.
     fn step(&mut self, step: CycleStep) -> Result<(), AllocError> {
         let (first, second, between, last) = match step.edge {
-            Edge::Ww => (step.to, step.from, " wrote ", " after "),
-            Edge::Wr => (step.to, step.from, " read in ", " what was written by "),
-            Edge::Rw => (
+            EdgeKind::Ww => (step.to, step.from, " wrote ", " after "),
+            EdgeKind::Wr => (step.to, step.from, " read in ", " what was written by "),
+            EdgeKind::Rw => (
                 step.from,
                 step.to,
                 " read ",
                 " as it was before the write of ",
             ),
-            Edge::So => (step.to, step.from, " came", " in its process after "),
-            Edge::Rt => (step.to, step.from, " began", " after the end of "),
+            EdgeKind::So => (step.to, step.from, " came", " in its process after "),
+            EdgeKind::Rt => (step.to, step.from, " began", " after the end of "),
         };
         self.begin()?;
         self.txn(first)?;
@@ -69,8 +71,8 @@ impl<'a> Sentence<'a> {
         self.say(last)?;
         self.txn(second)?;
         self.say(match (step.edge, self.level) {
-            (Edge::Rw, Level::Snapshot) => ": it started before that committed\n",
-            (Edge::Rw, Level::Serializable) => ": it had committed when that started\n",
+            (EdgeKind::Rw, Level::Snapshot) => ": it started before that committed\n",
+            (EdgeKind::Rw, Level::Serializable) => ": it had committed when that started\n",
             _ => ": it started when that had committed\n",
         })?;
         self.shown(step)
@@ -100,7 +102,7 @@ impl<'a> Sentence<'a> {
     }
 
     // Of two that wrote a key, which did first.
-    fn order(&mut self, order: Order) -> Result<(), AllocError> {
+    fn order(&mut self, order: WriteOrder) -> Result<(), AllocError> {
         self.txn(order.first)?;
         self.say(" wrote ")?;
         self.key(order.key)?;
@@ -133,7 +135,7 @@ impl<'a> Sentence<'a> {
     }
 
     // The orders of a clause.
-    fn clause(&mut self, orders: &[Order]) -> Result<(), AllocError> {
+    fn clause(&mut self, orders: &[WriteOrder]) -> Result<(), AllocError> {
         let mut between = "";
         'orders: for order in orders {
             self.say(between)?;
@@ -241,21 +243,21 @@ impl<'a> Sentence<'a> {
         self.say("no order was found of them: --budget N looks longer\n")
     }
 
-    fn verdict(&mut self, verdict: &Verdict) -> Result<(), AllocError> {
+    fn verdict(&mut self, verdict: &HistoryVerdict) -> Result<(), AllocError> {
         match verdict {
-            Verdict::Yes(_) => Ok(()),
-            Verdict::No(cycle) => self.steps(cycle.steps.as_slice()),
-            Verdict::Refuted(refutation) => self.refutation(refutation),
-            Verdict::Fact(fact) => {
+            HistoryVerdict::Yes(_) => Ok(()),
+            HistoryVerdict::No(cycle) => self.steps(cycle.steps.as_slice()),
+            HistoryVerdict::Refuted(refutation) => self.refutation(refutation),
+            HistoryVerdict::Fact(fact) => {
                 self.fact(*fact)?;
                 self.read_shown(*fact)
             }
-            Verdict::Open(keys) => self.open(keys.as_slice()),
-            Verdict::Unknown => {
+            HistoryVerdict::Open(keys) => self.open(keys.as_slice()),
+            HistoryVerdict::Unknown => {
                 self.begin()?;
                 self.say("neither an explanation nor a circle was found\n")
             }
-            Verdict::Twice(first, second, value) => self.twice(*first, *second, *value),
+            HistoryVerdict::Twice(first, second, value) => self.twice(*first, *second, *value),
         }
     }
 
@@ -268,7 +270,7 @@ impl<'a> Sentence<'a> {
     // Whether a transaction failed.
     fn has_failed(&self, txn: u32) -> bool {
         match self.history.recording.transactions.get(txn as usize) {
-            Some(transaction) => matches!(transaction.outcome, Outcome::Fail),
+            Some(transaction) => matches!(transaction.outcome, RecordedOutcome::Fail),
             None => false,
         }
     }
@@ -322,7 +324,7 @@ impl<'a> Sentence<'a> {
 // No sentence yet, of which each line is to begin with this sign.
 fn no_sentence<'a>(
     alloc: Global,
-    history: &'a History,
+    history: &'a NamedHistory,
     level: Level,
     sign: &'static str,
 ) -> Sentence<'a> {
@@ -338,7 +340,7 @@ fn no_sentence<'a>(
 /// The sentence that says what a recorder got wrong.
 pub(crate) fn wrong_sentence(
     alloc: Global,
-    history: &History,
+    history: &NamedHistory,
     wrong: Misrecorded,
 ) -> Result<Vec<u8>, AllocError> {
     let mut sentence = no_sentence(alloc, history, Level::Snapshot, SIGN);
@@ -349,10 +351,10 @@ pub(crate) fn wrong_sentence(
 /// The sentences of a verdict at a level, each a line behind a sign; none of a yes.
 pub(crate) fn sentences(
     alloc: Global,
-    history: &History,
+    history: &NamedHistory,
     level: Level,
     sign: &'static str,
-    verdict: &Verdict,
+    verdict: &HistoryVerdict,
 ) -> Result<Vec<u8>, AllocError> {
     let mut sentence = no_sentence(alloc, history, level, sign);
     sentence.verdict(verdict)?;

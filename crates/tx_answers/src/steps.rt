@@ -6,9 +6,9 @@ ghost use Rattle.tx_answers.specs.Traces.{key_bytes, name_bytes, scalar_bytes, v
 
 use crate::moment::Moment;
 use std::alloc::Global;
-use tx_import::{History, Name, Scalar};
+use tx_import::{Name, NamedHistory, Scalar};
 use tx_machine::Step;
-use tx_recording::{Act, Op, Outcome, Recording, Span};
+use tx_recording::{Act, RecordedOp, RecordedOutcome, Recording, Span};
 use tx_text::{Broken, put_digits};
 use tx_types::{Change, Changes, Items, Key, Mutation, Ts, Value};
 use tx_verdict_text::{put_signed, truth_word};
@@ -43,7 +43,7 @@ fn digits(alloc: Global, n: u64) -> Result<Vec<u8>, Broken>
 }
 
 // The key of this number.
-fn key_of(alloc: Global, history: &History, key: u32) -> Result<Key, Broken>
+fn key_of(alloc: Global, history: &NamedHistory, key: u32) -> Result<Key, Broken>
     ensures { IfOk result (λ made. made ≡ key_bytes history.now key) }
 {
     match history.tables.keys.get(key as usize) {
@@ -75,7 +75,7 @@ fn value_text(alloc: Global, value: &Scalar) -> Result<Value, Broken>
 }
 
 // The value of this number.
-fn value_of(alloc: Global, history: &History, value: u32) -> Result<Value, Broken>
+fn value_of(alloc: Global, history: &NamedHistory, value: u32) -> Result<Value, Broken>
     ensures { IfOk result (λ made. made ≡ value_bytes history.now value) }
 {
     match history.tables.values.get(value as usize) {
@@ -96,21 +96,21 @@ fn put_by(act: Act) -> Option<u32>
 }
 
 // Whether an operation puts something.
-fn is_put(op: Op) -> bool
+fn is_put(op: RecordedOp) -> bool
     ensures { result ≡ is_put_op op }
 {
     put_by(op.act).is_some()
 }
 
 // Whether an operation puts something into the key.
-fn is_into(op: Op, key: u32) -> bool
+fn is_into(op: RecordedOp, key: u32) -> bool
     ensures { result ≡ is_put_into key op }
 {
     op.key == key && is_put(op)
 }
 
 // Whether one of the operations puts something into the key.
-fn puts_into(ops: &[Op], key: u32) -> bool
+fn puts_into(ops: &[RecordedOp], key: u32) -> bool
     ensures { result ≡ list_any (is_put_into key) ops.now }
 {
     for i in 0..ops.len() {
@@ -122,7 +122,7 @@ fn puts_into(ops: &[Op], key: u32) -> bool
 }
 
 // Whether one of the operations puts something.
-fn puts(ops: &[Op]) -> bool
+fn puts(ops: &[RecordedOp]) -> bool
     ensures { result ≡ list_any is_put_op ops.now }
 {
     for i in 0..ops.len() {
@@ -134,7 +134,7 @@ fn puts(ops: &[Op]) -> bool
 }
 
 // What a read found: the last of its values stands for all of them.
-fn found_in(alloc: Global, history: &History, span: Span) -> Result<Option<Value>, Broken>
+fn found_in(alloc: Global, history: &NamedHistory, span: Span) -> Result<Option<Value>, Broken>
     ensures { IfOk result (λ found. found ≡ found_by history.now span) }
 {
     if span.count == 0 {
@@ -151,9 +151,9 @@ fn found_in(alloc: Global, history: &History, span: Span) -> Result<Option<Value
 fn put_read(
     alloc: Global,
     steps: &mut Vec<Step>,
-    history: &History,
+    history: &NamedHistory,
     at: Ts,
-    op: Op,
+    op: RecordedOp,
 ) -> Result<(), Broken>
     ensures { OnOk result (steps.new.items ≡ steps.old.items ++ read_step history.now at op.key op.act) }
 {
@@ -172,9 +172,9 @@ fn put_read(
 fn put_read_at(
     alloc: Global,
     steps: &mut Vec<Step>,
-    history: &History,
+    history: &NamedHistory,
     at: Ts,
-    ops: &[Op],
+    ops: &[RecordedOp],
     place: usize,
 ) -> Result<(), Broken>
     requires { place < length ops.now }
@@ -191,11 +191,11 @@ fn put_read_at(
 fn put_reads(
     alloc: Global,
     steps: &mut Vec<Step>,
-    history: &History,
+    history: &NamedHistory,
     at: Ts,
-    ops: &[Op],
+    ops: &[RecordedOp],
 ) -> Result<(), Broken>
-    ensures { OnOk result (steps.new.items ≡ steps.old.items ++ reads_of history.now Outcome.Ok at ops.now) }
+    ensures { OnOk result (steps.new.items ≡ steps.old.items ++ reads_of history.now RecordedOutcome.Ok at ops.now) }
 {
     for i in 0..ops.len() {
         put_read_at(alloc, steps, history, at, ops, i)?;
@@ -204,7 +204,12 @@ fn put_reads(
 }
 
 // Adds what an act leaves in a key.
-fn put_change(alloc: Global, changes: &mut Changes, history: &History, op: Op) -> Result<(), Broken>
+fn put_change(
+    alloc: Global,
+    changes: &mut Changes,
+    history: &NamedHistory,
+    op: RecordedOp,
+) -> Result<(), Broken>
     ensures { OnOk result (changes.new ≡ changes.old ++ change_of history.now op.key (put_of_act op.act)) }
 {
     let Some(value) = put_by(op.act) else {
@@ -222,8 +227,8 @@ fn put_change(alloc: Global, changes: &mut Changes, history: &History, op: Op) -
 fn put_change_at(
     alloc: Global,
     changes: &mut Changes,
-    history: &History,
-    ops: &[Op],
+    history: &NamedHistory,
+    ops: &[RecordedOp],
     place: usize,
 ) -> Result<(), Broken>
     requires { place < length ops.now }
@@ -237,7 +242,7 @@ fn put_change_at(
 }
 
 // What operations leave in each key.
-fn changes_of(alloc: Global, history: &History, ops: &[Op]) -> Result<Changes, Broken>
+fn changes_of(alloc: Global, history: &NamedHistory, ops: &[RecordedOp]) -> Result<Changes, Broken>
     ensures { IfOk result (λ changes. changes ≡ changes_by history.now ops.now) }
 {
     let mut changes = Items::new(alloc);
@@ -248,7 +253,7 @@ fn changes_of(alloc: Global, history: &History, ops: &[Op]) -> Result<Changes, B
 }
 
 // The operations of a transaction, none past the last one.
-fn ops_of(recording: &Recording, txn: u32) -> &[Op]
+fn ops_of(recording: &Recording, txn: u32) -> &[RecordedOp]
     requires { IsRecording recording.now }
     ensures { result.now ≡ ops_in recording.now txn }
 {
@@ -260,12 +265,12 @@ fn ops_of(recording: &Recording, txn: u32) -> &[Op]
 }
 
 // What is known of a transaction's end.
-fn outcome_of(recording: &Recording, txn: u32) -> Outcome
+fn outcome_of(recording: &Recording, txn: u32) -> RecordedOutcome
     ensures { result ≡ (transaction_at recording.now txn).outcome }
 {
     match recording.transactions.get(txn as usize) {
         Some(transaction) => transaction.outcome,
-        None => Outcome::Fail,
+        None => RecordedOutcome::Fail,
     }
 }
 
@@ -273,16 +278,16 @@ fn outcome_of(recording: &Recording, txn: u32) -> Outcome
 fn put_known_reads(
     alloc: Global,
     steps: &mut Vec<Step>,
-    history: &History,
-    outcome: Outcome,
+    history: &NamedHistory,
+    outcome: RecordedOutcome,
     at: Ts,
-    ops: &[Op],
+    ops: &[RecordedOp],
 ) -> Result<(), Broken>
     ensures { OnOk result (steps.new.items ≡ steps.old.items ++ reads_of history.now outcome at ops.now) }
 {
     match outcome {
-        Outcome::Ok => put_reads(alloc, steps, history, at, ops),
-        Outcome::Fail | Outcome::Info => Ok(()),
+        RecordedOutcome::Ok => put_reads(alloc, steps, history, at, ops),
+        RecordedOutcome::Fail | RecordedOutcome::Info => Ok(()),
     }
 }
 
@@ -290,9 +295,9 @@ fn put_known_reads(
 fn put_declared(
     alloc: Global,
     steps: &mut Vec<Step>,
-    history: &History,
+    history: &NamedHistory,
     at: Ts,
-    ops: &[Op],
+    ops: &[RecordedOp],
 ) -> Result<(), Broken>
     ensures { OnOk result (steps.new.items ≡ steps.old.items ++ declared_by history.now at ops.now) }
 {
@@ -308,7 +313,7 @@ fn put_declared(
 fn put_start(
     alloc: Global,
     steps: &mut Vec<Step>,
-    history: &History,
+    history: &NamedHistory,
     txn: u32,
     at: Ts,
 ) -> Result<(), Broken>
@@ -326,7 +331,7 @@ fn put_start(
 // Adds the steps of a transaction that commits.
 fn put_commit(
     steps: &mut Vec<Step>,
-    history: &History,
+    history: &NamedHistory,
     txn: u32,
     at: Ts,
     commit: Ts,
@@ -346,7 +351,7 @@ fn put_commit(
 fn put_moment(
     alloc: Global,
     steps: &mut Vec<Step>,
-    history: &History,
+    history: &NamedHistory,
     moment: Moment,
 ) -> Result<(), Broken>
     requires { IsRecording history.now.recording }
@@ -361,7 +366,7 @@ fn put_moment(
 /// The steps of moments, in turn.
 pub(crate) fn steps_of(
     alloc: Global,
-    history: &History,
+    history: &NamedHistory,
     moments: &[Moment],
 ) -> Result<Vec<Step>, Broken>
     requires { IsRecording history.now.recording }

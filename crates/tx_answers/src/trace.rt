@@ -10,7 +10,7 @@ use crate::moment::moments_of;
 use crate::steps::steps_of;
 use std::alloc::Global;
 use tx_check::put_step;
-use tx_import::History;
+use tx_import::NamedHistory;
 use tx_machine::{Refused, Step, check_steps};
 use tx_text::Broken;
 use tx_verdict::Timestamps;
@@ -42,7 +42,7 @@ fn text_of_run(alloc: Global, steps: &[Step]) -> Result<Option<Vec<u8>>, Broken>
 /// not make it.
 pub(crate) fn trace_of(
     alloc: Global,
-    history: &History,
+    history: &NamedHistory,
     timestamps: &Timestamps,
 ) -> Result<Option<Vec<u8>>, Broken>
     requires { IsRecording history.now.recording }

@@ -2,16 +2,16 @@
 ghost use Rattle.tx_recording.specs.Recordings.{IsRecording};
 
 use crate::orders::add_orders;
-use crate::plan::{Member, Plan, members_of};
+use crate::plan::{ChainMember, ChainPlan, members_of};
 use crate::puts::{Put, list_at, number, put_at};
 use std::alloc::{AllocError, Global};
 use tx_history::{Read, Recorded};
-use tx_recording::{Op, Recording, Span};
+use tx_recording::{RecordedOp, Recording, Span};
 use tx_verdict::{Home, Lives, NO_SPAN, Question, Versions, value_of};
-use tx_views::{Effect, View, effect_of};
+use tx_views::{Effect, RecordedView, effect_of};
 
 // Notes which version the values of a transaction are part of.
-fn note_homes(homes: &mut [Home], ops: &[Op], key: u32, home: Home) {
+fn note_homes(homes: &mut [Home], ops: &[RecordedOp], key: u32, home: Home) {
     for i in 0..ops.len() {
         if ops[i].key != key {
             continue;
@@ -68,7 +68,7 @@ fn add_chain(
     versions: &mut Versions,
     recording: &Recording,
     puts: &[Put],
-    members: &[Member],
+    members: &[ChainMember],
     chain: u32,
 ) -> Result<(), AllocError>
     requires { IsRecording recording.now }
@@ -93,7 +93,7 @@ fn add_chain(
 }
 
 // Which version a view is of.
-fn read_of(recording: &Recording, homes: &[Home], view: View) -> Read {
+fn read_of(recording: &Recording, homes: &[Home], view: RecordedView) -> Read {
     let list = list_at(recording, view.span);
     let mut version = 0;
     let mut key = view.key;
@@ -114,7 +114,7 @@ fn read_of(recording: &Recording, homes: &[Home], view: View) -> Read {
 fn add_reads(
     versions: &mut Versions,
     recording: &Recording,
-    views: &[View],
+    views: &[RecordedView],
 ) -> Result<(), AllocError> {
     for i in 0..views.len() {
         let read = read_of(recording, versions.homes.as_slice(), views[i]);
@@ -161,10 +161,10 @@ const NO_HOME: Home = Home {
 fn assemble(
     alloc: Global,
     recording: &Recording,
-    views: &[View],
+    views: &[RecordedView],
     puts: &[Put],
     lives: &Lives,
-    plan: &Plan,
+    plan: &ChainPlan,
 ) -> Result<Versions, AllocError>
     requires { IsRecording recording.now }
 {
@@ -189,11 +189,11 @@ fn assemble(
 pub fn versions_of(
     alloc: Global,
     recording: &Recording,
-    views: &[View],
+    views: &[RecordedView],
     question: Question,
     lives: &Lives,
     puts: &[Put],
-    plan: &Plan,
+    plan: &ChainPlan,
 ) -> Result<Versions, AllocError>
     requires { IsRecording recording.now }
 {

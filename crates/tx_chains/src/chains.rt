@@ -1,14 +1,14 @@
 //! The chains of all keys, in an order of what nobody saw.
 
-use crate::plan::{Chains, Follows, Plan, end_chain, take_from, take_list, take_put};
+use crate::plan::{ChainPlan, Chains, Follows, end_chain, take_from, take_list, take_put};
 use crate::puts::{Put, Puts, list_at, number, put_at};
 use std::alloc::{AllocError, Global};
 use tx_recording::Recording;
-use tx_views::View;
+use tx_views::RecordedView;
 
 /// What chains are made of.
 #[derive(Drop)]
-pub struct Parts {
+pub struct ChainParts {
     pub puts: Puts,
     pub follows: Follows,
     /// By key: the view with most values.
@@ -45,8 +45,8 @@ fn first_in(first: &[Option<u32>], key: u32) -> Option<u32> {
 fn take_key(
     chains: &mut Chains,
     recording: &Recording,
-    views: &[View],
-    parts: &Parts,
+    views: &[RecordedView],
+    parts: &ChainParts,
     key: u32,
 ) -> Result<(), AllocError> {
     let before = chains.plan.members.len();
@@ -103,7 +103,7 @@ fn extras_of(
 // Takes the extras of a key into one chain, or each into its own.
 fn take_extras(
     chains: &mut Chains,
-    parts: &Parts,
+    parts: &ChainParts,
     extras: &Extras,
     key: u32,
     apart: bool,
@@ -180,7 +180,7 @@ impl Extras {
 // Takes of the extras of a key those that are asked for, and the only one in any case.
 fn take_asked(
     chains: &mut Chains,
-    parts: &Parts,
+    parts: &ChainParts,
     extras: &Extras,
     key: u32,
     asked: Asked,
@@ -198,8 +198,8 @@ fn take_asked(
 fn take_keys(
     chains: &mut Chains,
     recording: &Recording,
-    views: &[View],
-    parts: &Parts,
+    views: &[RecordedView],
+    parts: &ChainParts,
     extras: &Extras,
     asked: Asked,
 ) -> Result<(), AllocError> {
@@ -219,7 +219,7 @@ fn take_keys(
 fn take_open(
     chains: &mut Chains,
     recording: &Recording,
-    parts: &Parts,
+    parts: &ChainParts,
     extras: &Extras,
 ) -> Result<(), AllocError> {
     for key in 0..recording.keys {
@@ -244,8 +244,8 @@ fn take_rest(chains: &mut Chains, puts: &[Put]) -> Result<(), AllocError> {
 fn known_puts(
     alloc: Global,
     recording: &Recording,
-    views: &[View],
-    parts: &Parts,
+    views: &[RecordedView],
+    parts: &ChainParts,
 ) -> Result<Chains, AllocError> {
     let mut chains = Chains::new(alloc, parts.puts.all.len())?;
     for key in 0..recording.keys {
@@ -259,11 +259,11 @@ fn known_puts(
 pub fn plan_of(
     alloc: Global,
     recording: &Recording,
-    views: &[View],
-    parts: &Parts,
+    views: &[RecordedView],
+    parts: &ChainParts,
     order: &[u32],
     asked: Asked,
-) -> Result<(Plan, Extras), AllocError> {
+) -> Result<(ChainPlan, Extras), AllocError> {
     let mut known = known_puts(alloc, recording, views, parts)?;
     let puts = parts.puts.all.as_slice();
     let mut extras = extras_of(alloc, recording, puts, known.used.as_slice(), order)?;

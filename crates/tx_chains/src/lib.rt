@@ -10,6 +10,6 @@ mod plan;
 mod puts;
 
 pub use assemble::versions_of;
-pub use chains::{Asked, Extras, Parts, plan_of};
-pub use plan::{Follows, Member, Plan, first_member, first_put, follows_of, last_put};
+pub use chains::{Asked, ChainParts, Extras, plan_of};
+pub use plan::{ChainMember, ChainPlan, Follows, first_member, first_put, follows_of, last_put};
 pub use puts::{Put, Puts, lives_of, number, put_at, puts_of};

@@ -3,7 +3,7 @@ ghost use Rattle.tx_recording.specs.Recordings.{IsRecording};
 
 use crate::puts::{number, put_at};
 use std::alloc::{AllocError, Global};
-use tx_clock::{Event, events_of};
+use tx_clock::{ClockEvent, events_of};
 use tx_history::{After, Read, Recorded};
 use tx_recording::Recording;
 use tx_verdict::{Level, Question, Versions};
@@ -86,7 +86,7 @@ fn add_moment(versions: &mut Versions, moments: &mut Moments, time: u64) -> Resu
 fn add_event(
     versions: &mut Versions,
     moments: &mut Moments,
-    event: Event,
+    event: ClockEvent,
 ) -> Result<(), AllocError> {
     if event.ends {
         add_moment(versions, moments, event.time)?;

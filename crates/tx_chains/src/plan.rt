@@ -1,31 +1,31 @@
 //! In which order versions are taken.
 
-use crate::chains::Parts;
+use crate::chains::ChainParts;
 use crate::puts::{Put, list_at, number, put_at};
 use std::alloc::{AllocError, Global};
 use tx_recording::Recording;
-use tx_verdict::{Base, Lost};
-use tx_views::View;
+use tx_verdict::{Base, LostUpdate};
+use tx_views::RecordedView;
 
 /// Chains of what was put: each of a key, one version after the other.
 #[derive(Drop)]
-pub struct Plan {
+pub struct ChainPlan {
     /// Where each chain begins among the members, and where the last ends.
     pub heads: Vec<u32>,
     /// The key of each chain.
     pub names: Vec<u32>,
-    pub members: Vec<Member>,
+    pub members: Vec<ChainMember>,
 }
 
 /// A version of a chain.
 #[derive(Clone, Copy)]
-pub struct Member {
+pub struct ChainMember {
     pub put: u32,
     pub base: Base,
 }
 
 /// The members of a chain.
-pub(crate) fn members_of(plan: &Plan, chain: usize) -> &[Member] {
+pub(crate) fn members_of(plan: &ChainPlan, chain: usize) -> &[ChainMember] {
     if chain >= plan.heads.len() || chain + 1 >= plan.heads.len() {
         return &plan.members[0..0];
     }
@@ -38,24 +38,24 @@ pub(crate) fn members_of(plan: &Plan, chain: usize) -> &[Member] {
 }
 
 /// The first member of a chain.
-pub fn first_member(plan: &Plan, chain: usize) -> Option<Member> {
+pub fn first_member(plan: &ChainPlan, chain: usize) -> Option<ChainMember> {
     let member = members_of(plan, chain).first()?;
     Some(*member)
 }
 
 // The put of a member.
-fn put_in(puts: &[Put], member: Member) -> Option<Put> {
+fn put_in(puts: &[Put], member: ChainMember) -> Option<Put> {
     let put = puts.get(member.put as usize)?;
     Some(*put)
 }
 
 /// The first put of a chain.
-pub fn first_put(plan: &Plan, puts: &[Put], chain: usize) -> Option<Put> {
+pub fn first_put(plan: &ChainPlan, puts: &[Put], chain: usize) -> Option<Put> {
     put_in(puts, first_member(plan, chain)?)
 }
 
 /// The last put of a chain.
-pub fn last_put(plan: &Plan, puts: &[Put], chain: usize) -> Option<Put> {
+pub fn last_put(plan: &ChainPlan, puts: &[Put], chain: usize) -> Option<Put> {
     let member = members_of(plan, chain).last()?;
     put_in(puts, *member)
 }
@@ -68,7 +68,7 @@ pub struct Follows {
     /// By value: the one that saw it last in its key.
     pub next: Vec<Option<u32>>,
     /// Two that saw the same.
-    pub lost: Option<Lost>,
+    pub lost: Option<LostUpdate>,
 }
 
 // Notes what a put saw, in a table.
@@ -102,7 +102,7 @@ fn view_in(puts: &[Put], put: u32) -> Option<u32> {
 }
 
 // The values that a put saw, and their view.
-fn seen_by<'a>(recording: &'a Recording, views: &[View], put: Put) -> Option<&'a [u32]> {
+fn seen_by<'a>(recording: &'a Recording, views: &[RecordedView], put: Put) -> Option<&'a [u32]> {
     let place = put.view? as usize;
     if place >= views.len() {
         return None;
@@ -114,7 +114,7 @@ fn seen_by<'a>(recording: &'a Recording, views: &[View], put: Put) -> Option<&'a
 pub fn follows_of(
     alloc: Global,
     recording: &Recording,
-    views: &[View],
+    views: &[RecordedView],
     puts: &[Put],
 ) -> Result<Follows, AllocError> {
     let mut follows = Follows {
@@ -136,21 +136,21 @@ pub fn follows_of(
 }
 
 // The views of two puts.
-fn lost_by(puts: &[Put], before: u32, put: Put) -> Option<Lost> {
+fn lost_by(puts: &[Put], before: u32, put: Put) -> Option<LostUpdate> {
     let first = view_in(puts, before)?;
     let second = put.view?;
-    Some(Lost { first, second })
+    Some(LostUpdate { first, second })
 }
 
 /// Members that are put into a plan once.
 #[derive(Drop)]
 pub(crate) struct Chains {
-    pub plan: Plan,
+    pub plan: ChainPlan,
     pub used: Vec<bool>,
 }
 
 /// Ends a chain.
-pub(crate) fn end_chain(plan: &mut Plan, key: u32) -> Result<(), AllocError> {
+pub(crate) fn end_chain(plan: &mut ChainPlan, key: u32) -> Result<(), AllocError> {
     plan.names.push(key)?;
     plan.heads.push(number(plan.members.len()))?;
     Ok(())
@@ -162,7 +162,7 @@ fn take(chains: &mut Chains, put: u32, base: Base) -> Result<bool, AllocError> {
         return Ok(false);
     }
     put_at(chains.used.as_mut_slice(), put as usize, true);
-    chains.plan.members.push(Member { put, base })?;
+    chains.plan.members.push(ChainMember { put, base })?;
     Ok(true)
 }
 
@@ -225,7 +225,7 @@ impl Chains {
         let mut heads = Vec::new(alloc);
         heads.push(0)?;
         Ok(Chains {
-            plan: Plan {
+            plan: ChainPlan {
                 heads,
                 names: Vec::new(alloc),
                 members: Vec::new(alloc),
@@ -235,7 +235,7 @@ impl Chains {
     }
 
     /// The put that follows the last that was taken of a key, since there were so many.
-    pub(crate) fn start(&self, parts: &Parts, before: usize, key: u32) -> Option<u32> {
+    pub(crate) fn start(&self, parts: &ChainParts, before: usize, key: u32) -> Option<u32> {
         let count = self.plan.members.len();
         if count > before && count > 0 {
             let last = self.plan.members[count - 1];

@@ -2,9 +2,9 @@
 ghost use Rattle.tx_recording.specs.Recordings.{IsRecording};
 
 use std::alloc::{AllocError, Global};
-use tx_recording::{Op, Outcome, Recording, Span};
+use tx_recording::{RecordedOp, RecordedOutcome, Recording, Span};
 use tx_verdict::{Lives, Shown, value_of};
-use tx_views::{Owner, View};
+use tx_views::{Owner, RecordedView};
 
 /// That a transaction put values into a key.
 #[derive(Clone, Copy)]
@@ -66,7 +66,7 @@ fn show(
         let Some(transaction) = recording.transactions.get(owner.txn as usize) else {
             continue;
         };
-        if transaction.outcome == Outcome::Info {
+        if transaction.outcome == RecordedOutcome::Info {
             let shown = Shown {
                 view,
                 place: number(place),
@@ -93,7 +93,7 @@ pub fn lives_of(
     alloc: Global,
     recording: &Recording,
     owners: &[Option<Owner>],
-    views: &[View],
+    views: &[RecordedView],
 ) -> Result<Lives, AllocError> {
     let mut lives = committed(alloc, recording)?;
     for i in 0..views.len() {
@@ -118,7 +118,7 @@ struct Marks {
 }
 
 // Notes a view of a transaction, unless it has one of the key already.
-fn note_view(marks: &mut Marks, views: &[View], place: usize) {
+fn note_view(marks: &mut Marks, views: &[RecordedView], place: usize) {
     let Some(view) = views.get(place) else {
         return;
     };
@@ -137,7 +137,7 @@ fn note_view(marks: &mut Marks, views: &[View], place: usize) {
 }
 
 // The view of a key that a transaction has, if it has one.
-fn view_of(marks: &Marks, views: &[View], txn: u32, key: u32) -> Option<u32> {
+fn view_of(marks: &Marks, views: &[RecordedView], txn: u32, key: u32) -> Option<u32> {
     let mark = marks.views.get(key as usize)?;
     let place = (*mark)?;
     let view = views.get(place as usize)?;
@@ -156,9 +156,9 @@ fn put_of(marks: &Marks, puts: &[Put], txn: u32, key: u32) -> Option<u32> {
 fn note_op(
     puts: &mut Puts,
     marks: &mut Marks,
-    views: &[View],
+    views: &[RecordedView],
     txn: u32,
-    op: Op,
+    op: RecordedOp,
 ) -> Result<(), AllocError> {
     let Some(value) = value_of(op.act) else {
         return Ok(());
@@ -186,9 +186,9 @@ fn note_op(
 fn note_ops(
     puts: &mut Puts,
     marks: &mut Marks,
-    views: &[View],
+    views: &[RecordedView],
     txn: u32,
-    ops: &[Op],
+    ops: &[RecordedOp],
 ) -> Result<(), AllocError> {
     for i in 0..ops.len() {
         note_op(puts, marks, views, txn, ops[i])?;
@@ -197,7 +197,7 @@ fn note_ops(
 }
 
 // Notes the views of a transaction, from a place on. The place behind them.
-fn note_views(marks: &mut Marks, views: &[View], txn: u32, from: usize) -> usize {
+fn note_views(marks: &mut Marks, views: &[RecordedView], txn: u32, from: usize) -> usize {
     for place in from..views.len() {
         if views[place].txn != txn {
             return place;
@@ -211,7 +211,7 @@ fn note_views(marks: &mut Marks, views: &[View], txn: u32, from: usize) -> usize
 pub fn puts_of(
     alloc: Global,
     recording: &Recording,
-    views: &[View],
+    views: &[RecordedView],
     live: &[bool],
 ) -> Result<Puts, AllocError>
     requires { IsRecording recording.now }

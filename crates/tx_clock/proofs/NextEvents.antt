@@ -3,11 +3,11 @@ use Rattle.std.proofs.Common.{◌≡◌, ◌⊎◌, ℕ, ◌+◌, ◌<◌, ◌�
 use Rattle.std.proofs.lemmas.Bool.{cases_eq}
 use Rattle.std.proofs.lemmas.List.{get_or-set_same, get_or-set_other}
 use Rattle.std.proofs.lemmas.List.Elements.{Contains-push, Contains-append_left}
-use Rattle.tx_recording.specs.declared.recording.Outcome.TheVariants.{Ok}
+use Rattle.tx_recording.specs.declared.recording.RecordedOutcome.TheVariants.{Ok}
 use Rattle.tx_recording.specs.declared.recording.Recording.{Recording}
 use Rattle.tx_recording.specs.Recordings.{txns_of, transaction_at}
 use Rattle.tx_recording.specs.Explanations.{IsSession}
-use Rattle.tx_clock.specs.declared.clock.Event.{Event}
+use Rattle.tx_clock.specs.declared.clock.ClockEvent.{ClockEvent}
 use Rattle.tx_clock.specs.KeptOrder.{live_in, event_at}
 
 none_some : (p : ℕ) → None ≡ Some p → ⊥
@@ -82,7 +82,7 @@ same_time : (a b : ℕ) → Some a ≡ Some b → a ≡ b
 same_time a b e = grind (arith, e)
 
 -- one begin more
-pub begun_more : (r : Recording) (live : List Bool) (old new : List Event) (n time : ℕ)
+pub begun_more : (r : Recording) (live : List Bool) (old new : List ClockEvent) (n time : ℕ)
     → new ≡ old ++ record { time = time; txn = n; ends = false } ∷ [] → (transaction_at r n).began ≡ Some time
     → ((u b : ℕ) → u < n → IsTrue (live_in live u) → (transaction_at r u).began ≡ Some b
     → Contains old record { time = b; txn = u; ends = false })
@@ -106,7 +106,7 @@ begun_more r live old new n time is began all u b lt is_live at = elim (cases_eq
 ]
 
 -- one end more
-pub ended_more : (r : Recording) (old new : List Event) (n time : ℕ)
+pub ended_more : (r : Recording) (old new : List ClockEvent) (n time : ℕ)
     → new ≡ old ++ record { time = time; txn = n; ends = true } ∷ [] → (transaction_at r n).ended ≡ Some time
     → ((t e : ℕ) → t < n → (transaction_at r t).outcome ≡ Ok → (transaction_at r t).ended ≡ Some e
     → Contains old record { time = e; txn = t; ends = true })
@@ -129,13 +129,13 @@ ended_more r old new n time is ended all t e lt ok at = elim (cases_eq t n) [
       (all t e (omega (arith, lt, ne)) ok at))
 ]
 
-pub kept_push : (first old new : List Event) (one : Event) → new ≡ old ++ one ∷ []
-    → ((e : Event) → Contains first e → Contains old e)
-    → (e : Event) → Contains first e → Contains new e
+pub kept_push : (first old new : List ClockEvent) (one : ClockEvent) → new ≡ old ++ one ∷ []
+    → ((e : ClockEvent) → Contains first e → Contains old e)
+    → (e : ClockEvent) → Contains first e → Contains new e
 kept_push first old new one is kept e there =
     subst (λ q. Contains q e) (sym is) (Contains-append_left old (one ∷ []) e (kept e there))
 
-module _ (events : List Event) (starts commits : List ℕ) where
+module _ (events : List ClockEvent) (starts commits : List ℕ) where
   abbrev pub AreEnded : ℕ → ℕ → Type 0
   AreEnded latest n = (i : ℕ) → i < n → (event_at events i).ends ≡ true
       → get_or commits (event_at events i).txn 0 ≤ latest

@@ -1,10 +1,10 @@
 -- When timestamps keep an order.
 use Rattle.std.specs.Prelude.{◌≡◌, ℕ, ◌<◌, ◌≤◌, Bool, true, false, List, length, Contains, Some, IsTrue, slice_index, slice_index_or}
 use Rattle.std.specs.List.Sorted.{IsNonDecreasingBy}
-use Rattle.tx_recording.specs.declared.recording.Outcome.TheVariants.{Ok}
+use Rattle.tx_recording.specs.declared.recording.RecordedOutcome.TheVariants.{Ok}
 use Rattle.tx_recording.specs.declared.recording.Recording.{Recording}
 use Rattle.tx_recording.specs.Recordings.{txns_of, transaction_at}
-use Rattle.tx_clock.specs.declared.clock.Event.{Event}
+use Rattle.tx_clock.specs.declared.clock.ClockEvent.{ClockEvent}
 
 -- whether it is live, by a table
 abbrev pub live_in : List Bool → ℕ → Bool
@@ -17,18 +17,18 @@ KeepsPairs P live starts commits = (t u : ℕ) → P t u → IsTrue (live_in liv
 
 -- that each live one began, and each one ended that is known to have committed, in the order of
 -- time
-pub record AreEvents (r : Recording) (live : List Bool) (events : List Event) : Type 0 where
+pub record AreEvents (r : Recording) (live : List Bool) (events : List ClockEvent) : Type 0 where
   pub begun : (u b : ℕ) → u < txns_of r → IsTrue (live_in live u) → (transaction_at r u).began ≡ Some b
       → Contains events record { time = b; txn = u; ends = false }
   pub ended : (t e : ℕ) → t < txns_of r → (transaction_at r t).outcome ≡ Ok → (transaction_at r t).ended ≡ Some e
       → Contains events record { time = e; txn = t; ends = true }
-  pub rising : IsNonDecreasingBy (λ (e : Event). e.time) events
+  pub rising : IsNonDecreasingBy (λ (e : ClockEvent). e.time) events
 
-abbrev pub event_at : List Event → ℕ → Event
+abbrev pub event_at : List ClockEvent → ℕ → ClockEvent
 event_at events i = slice_index_or events i record { time = 0; txn = 0; ends = false }
 
 -- of two the first ends, and the second begins
-abbrev pub KeepsEvents : List Event → List ℕ → List ℕ → Type 0
+abbrev pub KeepsEvents : List ClockEvent → List ℕ → List ℕ → Type 0
 KeepsEvents events starts commits = (i j : ℕ) → i < j → j < length events → (event_at events i).ends ≡ true
     → (event_at events j).ends ≡ false
     → slice_index commits (event_at events i).txn ≤ slice_index starts (event_at events j).txn

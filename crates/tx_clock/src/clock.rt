@@ -1,8 +1,8 @@
 //! Whether timestamps keep the order of the recorder's clock.
 ghost use Rattle.std.specs.Prelude.{◌≡◌, ℕ, ◌<◌, Contains, Some, OnOk, IfOk, IsTrue, true, false};
-ghost use Rattle.tx_recording.specs.declared.recording.Outcome.TheVariants.{Ok as Committed};
+ghost use Rattle.tx_recording.specs.declared.recording.RecordedOutcome.TheVariants.{Ok as Committed};
 ghost use Rattle.tx_recording.specs.Recordings.{IsRecording, txns_of, transaction_at};
-ghost use Rattle.tx_clock.specs.declared.clock.Event.{Event};
+ghost use Rattle.tx_clock.specs.declared.clock.ClockEvent.{ClockEvent};
 ghost use Rattle.tx_recording.specs.Explanations.{IsEarlier};
 ghost use Rattle.tx_clock.specs.KeptOrder.{live_in, AreEvents, KeepsEvents, KeepsPairs};
 
@@ -12,7 +12,7 @@ use tx_recording::Recording;
 
 /// That a transaction began, or ended.
 #[derive(Clone, Copy, Debug, PartialEq, Eq)]
-pub struct Event {
+pub struct ClockEvent {
     /// By the recorder's clock.
     pub time: u64,
     pub txn: u32,
@@ -21,7 +21,7 @@ pub struct Event {
 
 // Adds that the live transactions began.
 fn add_begins(
-    events: &mut Vec<Event>,
+    events: &mut Vec<ClockEvent>,
     recording: &Recording,
     live: &[bool],
 ) -> Result<(), AllocError>
@@ -38,7 +38,7 @@ fn add_begins(
             continue;
         };
         let txn = txn as u32;
-        events.push(Event {
+        events.push(ClockEvent {
             time,
             txn,
             ends: false,
@@ -48,9 +48,9 @@ fn add_begins(
 }
 
 // Adds that those ended that are known to have committed.
-fn add_ends(events: &mut Vec<Event>, recording: &Recording) -> Result<(), AllocError>
+fn add_ends(events: &mut Vec<ClockEvent>, recording: &Recording) -> Result<(), AllocError>
     requires { IsRecording recording.now }
-    ensures kept { OnOk result ((e : Event) → Contains events.old.items e → Contains events.new.items e) }
+    ensures kept { OnOk result ((e : ClockEvent) → Contains events.old.items e → Contains events.new.items e) }
     ensures has { OnOk result ((t e : ℕ) → t < txns_of recording.now
         → (transaction_at recording.now t).outcome ≡ Committed
         → (transaction_at recording.now t).ended ≡ Some e
@@ -64,7 +64,7 @@ fn add_ends(events: &mut Vec<Event>, recording: &Recording) -> Result<(), AllocE
             continue;
         };
         let txn = txn as u32;
-        events.push(Event {
+        events.push(ClockEvent {
             time,
             txn,
             ends: true,
@@ -81,7 +81,7 @@ pub fn events_of(
     alloc: Global,
     recording: &Recording,
     live: &[bool],
-) -> Result<Vec<Event>, AllocError>
+) -> Result<Vec<ClockEvent>, AllocError>
     requires { IsRecording recording.now }
     ensures { IfOk result (λ events. AreEvents recording.now live.now events.items) }
 {
@@ -93,7 +93,7 @@ pub fn events_of(
 }
 
 // Whether each one that begins starts when all that ended before have committed.
-fn keeps_events(events: &[Event], starts: &[usize], commits: &[usize]) -> bool
+fn keeps_events(events: &[ClockEvent], starts: &[usize], commits: &[usize]) -> bool
     ensures { IsTrue result → KeepsEvents events.now starts.now commits.now }
 {
     let mut latest = 0;

@@ -6,5 +6,5 @@ mod clock;
 mod orders;
 mod sessions;
 
-pub use clock::{Event, events_of};
+pub use clock::{ClockEvent, events_of};
 pub use orders::keeps_orders;

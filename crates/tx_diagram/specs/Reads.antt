@@ -4,7 +4,7 @@ use Rattle.serde_json.specs.Written.{compact_text}
 use Rattle.tx_verdict.specs.declared.verdict.Rule.{Rule}
 use Rattle.tx_verdict.specs.declared.verdict.Rule.TheVariants as rule
 use Rattle.tx_verdict.specs.declared.verdict.Fact.{Fact}
-use Rattle.tx_import.specs.declared.reader.History.{History}
+use Rattle.tx_import.specs.declared.reader.NamedHistory.{NamedHistory}
 use Rattle.tx_ring.specs.declared.ring.Subject.TheVariants.{Read}
 use Rattle.tx_ring.specs.declared.ring.Tie.{Tie}
 use Rattle.tx_ring.specs.declared.ring.Tie.TheVariants.{Arrow, Line, Nothing}
@@ -15,7 +15,7 @@ use Rattle.tx_diagram.specs.Boxes.{id_text, shown_of, box_of}
 use Rattle.tx_acts.specs.Shown.{read_shown}
 
 -- what was read: a key, and its value
-abbrev pub read_text : History → Fact → List ℕ
+abbrev pub read_text : NamedHistory → Fact → List ℕ
 read_text h f = compact_text (key_data h f.key) ++ (codes " " ++ compact_text (known_value h f.value))
 
 -- why it cannot be
@@ -43,33 +43,33 @@ tie_of _ = Arrow
 -- ---- the picture
 
 -- the words of what leads from a box to the next one
-abbrev pub tied_text : History → Fact → ℕ → Tie → List ℕ
+abbrev pub tied_text : NamedHistory → Fact → ℕ → Tie → List ℕ
 tied_text h f rows tie = tie_text rows tie (read_text h f) (why_text f.rule) (read_shown h f)
 
 -- how many operations are shown of a transaction
-abbrev pub rows_of : History → Fact → ℕ → ℕ
+abbrev pub rows_of : NamedHistory → Fact → ℕ → ℕ
 rows_of h f t = length (shown_of h (f.key ∷ []) t)
 
 -- how many rows each box has
-abbrev pub most_rows : History → Fact → Option ℕ → ℕ
+abbrev pub most_rows : NamedHistory → Fact → Option ℕ → ℕ
 most_rows h f None = rows_of h f f.txn
 most_rows h f (Some t) = max (rows_of h f t) (rows_of h f f.txn)
 
 -- the box of a transaction at a place, of a kind
-abbrev pub box_at : History → Fact → ℕ → ℕ → List ℕ → ℕ → List ℕ
+abbrev pub box_at : NamedHistory → Fact → ℕ → ℕ → List ℕ → ℕ → List ℕ
 box_at h f rows place kind t = box_of h (f.key ∷ []) rows place kind t
 
 -- the reader's box
-abbrev pub alone_text : History → Fact → ℕ → List ℕ
+abbrev pub alone_text : NamedHistory → Fact → ℕ → List ℕ
 alone_text h f rows = box_at h f rows 0 (colour_of f.rule) f.txn ++ tied_text h f rows Nothing
 
 -- the other's box, and the reader's
-abbrev pub pair_text : History → Fact → ℕ → ℕ → List ℕ
+abbrev pub pair_text : NamedHistory → Fact → ℕ → ℕ → List ℕ
 pair_text h f rows t = box_at h f rows 0 (colour_of f.rule) t ++ (tied_text h f rows (tie_of f.rule)
     ++ (box_at h f rows 1 (codes "last") f.txn ++ box_end_text))
 
 -- the reader's box, behind that of the other who is told of, if there is one
-abbrev pub boxes_text : History → Fact → ℕ → Option ℕ → List ℕ
+abbrev pub boxes_text : NamedHistory → Fact → ℕ → Option ℕ → List ℕ
 boxes_text h f rows None = alone_text h f rows
 boxes_text h f rows (Some t) = pair_text h f rows t
 
@@ -79,11 +79,11 @@ boxes_of None = 1
 boxes_of (Some t) = 2
 
 -- boxes with so many rows, whose words reach so far
-abbrev pub framed_text : History → Fact → ℕ → ℕ → List ℕ
+abbrev pub framed_text : NamedHistory → Fact → ℕ → ℕ → List ℕ
 framed_text h f rows reach = head_text Read (rule_word f.rule) rows (boxes_of f.by) reach
     ++ (boxes_text h f rows f.by ++ close_text)
 
-abbrev pub read_picture : History → Fact → List ℕ
+abbrev pub read_picture : NamedHistory → Fact → List ℕ
 read_picture h f = framed_text h f (most_rows h f f.by) (reach_of (read_text h f) (why_text f.rule))
 
 -- ---- the graph
@@ -94,11 +94,11 @@ tip_text Line = codes ",dir=none];\n"
 tip_text _ = codes "];\n"
 
 -- the reader, with these words beside it; or the edge that leads there from the other
-abbrev pub edge_text : History → Fact → Option ℕ → List ℕ → List ℕ
+abbrev pub edge_text : NamedHistory → Fact → Option ℕ → List ℕ → List ℕ
 edge_text h f None label = codes "  " ++ (id_text h f.txn ++ (codes " [xlabel=" ++ (quoted label ++ codes "];\n")))
 edge_text h f (Some t) label = codes "  " ++ (id_text h t ++ (codes " -> " ++ (id_text h f.txn
     ++ (codes " [label=" ++ (quoted label ++ tip_text (tie_of f.rule))))))
 
-abbrev pub read_drawing : History → Fact → List ℕ
+abbrev pub read_drawing : NamedHistory → Fact → List ℕ
 read_drawing h f = codes "digraph \"" ++ (rule_word f.rule ++ (codes "\" {\n"
     ++ (edge_text h f f.by (read_text h f) ++ codes "}\n")))

@@ -6,13 +6,13 @@ ghost use Rattle.tx_diagram.specs.Boxes.{id_text, shown_of, op_row, rows_text, f
 
 use std::alloc::{AllocError, Global};
 use tx_acts::{about, op_line, ops_at, shown_ops};
-use tx_import::History;
-use tx_recording::Op;
+use tx_import::NamedHistory;
+use tx_recording::RecordedOp;
 use tx_ring::{put_box, put_row};
 use tx_verdict_text::put_id;
 
 /// The id of a transaction.
-pub(crate) fn name(alloc: Global, history: &History, txn: u32) -> Result<Vec<u8>, AllocError>
+pub(crate) fn name(alloc: Global, history: &NamedHistory, txn: u32) -> Result<Vec<u8>, AllocError>
     ensures { IfOk result (λ text. text.items ≡ id_text history.now txn) }
 {
     let mut text = Vec::new(alloc);
@@ -23,10 +23,10 @@ pub(crate) fn name(alloc: Global, history: &History, txn: u32) -> Result<Vec<u8>
 /// The operations that are shown of a transaction where these keys matter.
 pub(crate) fn shown_of(
     alloc: Global,
-    history: &History,
+    history: &NamedHistory,
     keys: &[u32],
     txn: u32,
-) -> Result<Vec<Op>, AllocError>
+) -> Result<Vec<RecordedOp>, AllocError>
     ensures { IfOk result (λ shown. shown.items ≡ shown_of history.now keys.now txn) }
 {
     shown_ops(alloc, keys, ops_at(history, txn))
@@ -36,9 +36,9 @@ pub(crate) fn shown_of(
 fn put_op_row(
     alloc: Global,
     out: &mut Vec<u8>,
-    history: &History,
+    history: &NamedHistory,
     number: usize,
-    op: Op,
+    op: RecordedOp,
 ) -> Result<(), AllocError>
     ensures { OnOk result (out.new.items ≡ out.old.items ++ row_text number (op_line history.now op)) }
 {
@@ -50,8 +50,8 @@ fn put_op_row(
 fn put_op_row_at(
     alloc: Global,
     out: &mut Vec<u8>,
-    history: &History,
-    ops: &[Op],
+    history: &NamedHistory,
+    ops: &[RecordedOp],
     place: usize,
 ) -> Result<(), AllocError>
     requires { place < length ops.now }
@@ -64,8 +64,8 @@ fn put_op_row_at(
 fn put_rows(
     alloc: Global,
     out: &mut Vec<u8>,
-    history: &History,
-    ops: &[Op],
+    history: &NamedHistory,
+    ops: &[RecordedOp],
 ) -> Result<(), AllocError>
     ensures { OnOk result (out.new.items ≡ out.old.items ++ rows_text history.now ops.now) }
 {
@@ -79,12 +79,12 @@ fn put_rows(
 fn put_filled(
     alloc: Global,
     out: &mut Vec<u8>,
-    history: &History,
+    history: &NamedHistory,
     rows: usize,
     place: usize,
     kind: &str,
     txn: u32,
-    ops: &[Op],
+    ops: &[RecordedOp],
 ) -> Result<(), AllocError>
     ensures { OnOk result (out.new.items ≡ out.old.items
         ++ filled_text history.now rows place kind.now txn ops.now) }
@@ -100,7 +100,7 @@ fn put_filled(
 pub(crate) fn put_box_of(
     alloc: Global,
     out: &mut Vec<u8>,
-    history: &History,
+    history: &NamedHistory,
     keys: &[u32],
     rows: usize,
     place: usize,

@@ -4,8 +4,8 @@ ghost use Rattle.std.specs.List.{flat_map};
 ghost use Rattle.tx_diagram.specs.Drawings.{drawn_byte, quoted, label_text, arrow_text, drawing_text, order_text, titled_text, settled_text, lemma_text, refuted_drawing};
 
 use std::alloc::{AllocError, Global};
-use tx_import::History;
-use tx_verdict::{Cycle, CycleStep, Lemma, Order, Refutation, Settled};
+use tx_import::NamedHistory;
+use tx_verdict::{Cycle, CycleStep, Lemma, Refutation, Settled, WriteOrder};
 use tx_verdict_text::{cycle_word, edge_word, put_id, put_key};
 
 // Appends a byte of a string of the drawing.
@@ -41,7 +41,7 @@ pub(crate) fn put_quoted(out: &mut Vec<u8>, text: &[u8]) -> Result<(), AllocErro
 /// The words at an edge: its kind, and its key where it has one.
 pub(crate) fn label(
     alloc: Global,
-    history: &History,
+    history: &NamedHistory,
     step: CycleStep,
 ) -> Result<Vec<u8>, AllocError>
     ensures { IfOk result (λ text. text.items ≡ label_text history.now step step.key) }
@@ -60,7 +60,7 @@ pub(crate) fn label(
 fn put_arrow(
     alloc: Global,
     out: &mut Vec<u8>,
-    history: &History,
+    history: &NamedHistory,
     step: CycleStep,
 ) -> Result<(), AllocError>
     ensures { OnOk result (out.new.items ≡ out.old.items ++ arrow_text history.now step) }
@@ -79,7 +79,7 @@ fn put_arrow(
 fn put_arrows(
     alloc: Global,
     out: &mut Vec<u8>,
-    history: &History,
+    history: &NamedHistory,
     steps: &[CycleStep],
 ) -> Result<(), AllocError>
     ensures { OnOk result (out.new.items ≡ out.old.items ++ flat_map (arrow_text history.now) steps.now) }
@@ -91,7 +91,11 @@ fn put_arrows(
 }
 
 /// A cycle as a graph for Graphviz.
-pub fn cycle_drawing(alloc: Global, history: &History, cycle: &Cycle) -> Result<Vec<u8>, AllocError>
+pub fn cycle_drawing(
+    alloc: Global,
+    history: &NamedHistory,
+    cycle: &Cycle,
+) -> Result<Vec<u8>, AllocError>
     ensures { IfOk result (λ text. text.items ≡ drawing_text history.now cycle.now) }
 {
     let mut out = Vec::new(alloc);
@@ -106,8 +110,8 @@ pub fn cycle_drawing(alloc: Global, history: &History, cycle: &Cycle) -> Result<
 /// Which of two wrote a key first, behind words.
 pub(crate) fn order_title(
     alloc: Global,
-    history: &History,
-    order: Order,
+    history: &NamedHistory,
+    order: WriteOrder,
 ) -> Result<Vec<u8>, AllocError>
     ensures { IfOk result (λ text. text.items ≡ codes "not " ++ order_text history.now order) }
 {
@@ -125,7 +129,7 @@ pub(crate) fn order_title(
 fn put_titled(
     alloc: Global,
     out: &mut Vec<u8>,
-    history: &History,
+    history: &NamedHistory,
     title: &[u8],
     steps: &[CycleStep],
 ) -> Result<(), AllocError>
@@ -142,7 +146,7 @@ fn put_titled(
 fn put_settled(
     alloc: Global,
     out: &mut Vec<u8>,
-    history: &History,
+    history: &NamedHistory,
     fact: &Settled,
 ) -> Result<(), AllocError>
     ensures { OnOk result (out.new.items ≡ out.old.items ++ settled_text history.now fact.now) }
@@ -155,7 +159,7 @@ fn put_settled(
 fn put_all_settled(
     alloc: Global,
     out: &mut Vec<u8>,
-    history: &History,
+    history: &NamedHistory,
     facts: &[Settled],
 ) -> Result<(), AllocError>
     ensures { OnOk result (out.new.items ≡ out.old.items ++ flat_map (settled_text history.now) facts.now) }
@@ -170,7 +174,7 @@ fn put_all_settled(
 fn put_lemma(
     alloc: Global,
     out: &mut Vec<u8>,
-    history: &History,
+    history: &NamedHistory,
     lemma: &Lemma,
 ) -> Result<(), AllocError>
     ensures { OnOk result (out.new.items ≡ out.old.items ++ lemma_text history.now lemma.now) }
@@ -182,7 +186,7 @@ fn put_lemma(
 fn put_all_lemmas(
     alloc: Global,
     out: &mut Vec<u8>,
-    history: &History,
+    history: &NamedHistory,
     lemmas: &[Lemma],
 ) -> Result<(), AllocError>
     ensures { OnOk result (out.new.items ≡ out.old.items ++ flat_map (lemma_text history.now) lemmas.now) }
@@ -196,7 +200,7 @@ fn put_all_lemmas(
 /// The rounds of a refutation as graphs for Graphviz.
 pub fn refuted_drawing(
     alloc: Global,
-    history: &History,
+    history: &NamedHistory,
     refutation: &Refutation,
 ) -> Result<Vec<u8>, AllocError>
     ensures { IfOk result (λ text. text.items ≡ refuted_drawing history.now refutation.now) }

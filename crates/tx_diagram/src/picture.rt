@@ -11,15 +11,15 @@ use crate::boxes::{put_box_of, shown_of};
 use crate::drawing::{label, order_title};
 use std::alloc::{AllocError, Global};
 use tx_acts::put_shown;
-use tx_import::History;
+use tx_import::NamedHistory;
 use tx_ring::{Subject, Tie, put_end, put_head, put_tie, reach_of};
-use tx_verdict::{Cycle, CycleStep, Edge, Lemma, Refutation, Settled};
+use tx_verdict::{Cycle, CycleStep, EdgeKind, Lemma, Refutation, Settled};
 use tx_verdict_text::{cycle_word, edge_word, put_id};
 
 // Words before, between and behind the ids of two transactions.
 fn told(
     alloc: Global,
-    history: &History,
+    history: &NamedHistory,
     before: &str,
     first: u32,
     between: &str,
@@ -39,18 +39,18 @@ fn told(
 }
 
 // What an edge says.
-fn sense(alloc: Global, history: &History, step: CycleStep) -> Result<Vec<u8>, AllocError>
+fn sense(alloc: Global, history: &NamedHistory, step: CycleStep) -> Result<Vec<u8>, AllocError>
     ensures { IfOk result (λ text. text.items ≡ sense_text history.now step.edge step.from step.to) }
 {
     let CycleStep { from, edge, to, .. } = step;
     match edge {
-        Edge::Ww => told(alloc, history, "", to, " wrote it after ", from, ""),
-        Edge::Wr => told(alloc, history, "", to, " read what ", from, " wrote"),
-        Edge::Rw => {
+        EdgeKind::Ww => told(alloc, history, "", to, " wrote it after ", from, ""),
+        EdgeKind::Wr => told(alloc, history, "", to, " read what ", from, " wrote"),
+        EdgeKind::Rw => {
             let between = " read it as it was before ";
             told(alloc, history, "", from, between, to, " wrote it")
         }
-        Edge::So => told(
+        EdgeKind::So => told(
             alloc,
             history,
             "one process ran ",
@@ -59,12 +59,12 @@ fn sense(alloc: Global, history: &History, step: CycleStep) -> Result<Vec<u8>, A
             to,
             "",
         ),
-        Edge::Rt => told(alloc, history, "", from, " had ended when ", to, " began"),
+        EdgeKind::Rt => told(alloc, history, "", from, " had ended when ", to, " began"),
     }
 }
 
 // How far the words of an edge reach.
-fn reach_at(alloc: Global, history: &History, step: CycleStep) -> Result<usize, AllocError>
+fn reach_at(alloc: Global, history: &NamedHistory, step: CycleStep) -> Result<usize, AllocError>
     ensures { IfOk result (λ reach. reach ≡ reach_at history.now step) }
 {
     let label = label(alloc, history, step)?;
@@ -73,7 +73,11 @@ fn reach_at(alloc: Global, history: &History, step: CycleStep) -> Result<usize, 
 }
 
 // How far the words of all edges reach.
-fn reach_over(alloc: Global, history: &History, steps: &[CycleStep]) -> Result<usize, AllocError>
+fn reach_over(
+    alloc: Global,
+    history: &NamedHistory,
+    steps: &[CycleStep],
+) -> Result<usize, AllocError>
     ensures { IfOk result (λ reach. reach
         ≡ most_of (λ i. reach_at history.now (step_at steps.now i)) (length steps.now)) }
 {
@@ -117,7 +121,7 @@ fn keys_of(alloc: Global, steps: &[CycleStep]) -> Result<Vec<u32>, AllocError>
 // How many operations are shown of the transaction that an edge leaves.
 fn rows_at(
     alloc: Global,
-    history: &History,
+    history: &NamedHistory,
     keys: &[u32],
     step: CycleStep,
 ) -> Result<usize, AllocError>
@@ -130,7 +134,7 @@ fn rows_at(
 // How many rows each box has.
 fn rows_of(
     alloc: Global,
-    history: &History,
+    history: &NamedHistory,
     keys: &[u32],
     steps: &[CycleStep],
 ) -> Result<usize, AllocError>
@@ -144,7 +148,7 @@ fn rows_of(
 }
 
 // What shows an edge.
-fn shown(alloc: Global, history: &History, step: CycleStep) -> Result<Vec<u8>, AllocError>
+fn shown(alloc: Global, history: &NamedHistory, step: CycleStep) -> Result<Vec<u8>, AllocError>
     ensures { IfOk result (λ text. text.items ≡ shown_text history.now step) }
 {
     let mut text = Vec::new(alloc);
@@ -156,7 +160,7 @@ fn shown(alloc: Global, history: &History, step: CycleStep) -> Result<Vec<u8>, A
 fn put_tied(
     alloc: Global,
     out: &mut Vec<u8>,
-    history: &History,
+    history: &NamedHistory,
     rows: usize,
     tie: Tie,
     step: CycleStep,
@@ -180,7 +184,7 @@ fn put_tied(
 fn put_piece(
     alloc: Global,
     out: &mut Vec<u8>,
-    history: &History,
+    history: &NamedHistory,
     keys: &[u32],
     rows: usize,
     place: usize,
@@ -212,7 +216,7 @@ fn tie_at(count: usize, place: usize) -> Tie
 fn put_piece_at(
     alloc: Global,
     out: &mut Vec<u8>,
-    history: &History,
+    history: &NamedHistory,
     keys: &[u32],
     rows: usize,
     steps: &[CycleStep],
@@ -230,7 +234,7 @@ fn put_piece_at(
 fn put_pieces(
     alloc: Global,
     out: &mut Vec<u8>,
-    history: &History,
+    history: &NamedHistory,
     keys: &[u32],
     rows: usize,
     steps: &[CycleStep],
@@ -249,7 +253,7 @@ fn last_kind(steps: &[CycleStep]) -> &'static str
     ensures { result.now ≡ last_word steps.now }
 {
     if steps.is_empty() {
-        return edge_word(Edge::Ww);
+        return edge_word(EdgeKind::Ww);
     }
     edge_word(steps[steps.len() - 1].edge)
 }
@@ -266,7 +270,7 @@ fn put_last(out: &mut Vec<u8>, rows: usize, steps: &[CycleStep]) -> Result<(), A
 fn put_ringed(
     alloc: Global,
     out: &mut Vec<u8>,
-    history: &History,
+    history: &NamedHistory,
     title: &[u8],
     keys: &[u32],
     rows: usize,
@@ -285,7 +289,7 @@ fn put_ringed(
 fn put_picture(
     alloc: Global,
     out: &mut Vec<u8>,
-    history: &History,
+    history: &NamedHistory,
     title: &[u8],
     steps: &[CycleStep],
 ) -> Result<(), AllocError>
@@ -298,7 +302,11 @@ fn put_picture(
 }
 
 /// A cycle as an SVG.
-pub fn cycle_picture(alloc: Global, history: &History, cycle: &Cycle) -> Result<Vec<u8>, AllocError>
+pub fn cycle_picture(
+    alloc: Global,
+    history: &NamedHistory,
+    cycle: &Cycle,
+) -> Result<Vec<u8>, AllocError>
     ensures { IfOk result (λ text. text.items ≡ picture_text history.now cycle.now) }
 {
     let mut out = Vec::new(alloc);
@@ -311,7 +319,7 @@ pub fn cycle_picture(alloc: Global, history: &History, cycle: &Cycle) -> Result<
 fn put_refuted(
     alloc: Global,
     out: &mut Vec<u8>,
-    history: &History,
+    history: &NamedHistory,
     refutation: &Refutation,
 ) -> Result<(), AllocError>
     ensures { OnOk result (out.new.items ≡ out.old.items ++ refuted_picture history.now refutation.now) }
@@ -322,7 +330,7 @@ fn put_refuted(
 /// The last round of a refutation as an SVG.
 pub fn refuted_picture(
     alloc: Global,
-    history: &History,
+    history: &NamedHistory,
     refutation: &Refutation,
 ) -> Result<Vec<u8>, AllocError>
     ensures { IfOk result (λ text. text.items ≡ refuted_picture history.now refutation.now) }
@@ -336,7 +344,7 @@ pub fn refuted_picture(
 fn put_settled(
     alloc: Global,
     out: &mut Vec<u8>,
-    history: &History,
+    history: &NamedHistory,
     fact: &Settled,
 ) -> Result<(), AllocError>
     ensures { OnOk result (out.new.items ≡ out.old.items ++ settled_picture history.now fact.now) }
@@ -349,7 +357,7 @@ fn put_settled(
 fn put_lemma(
     alloc: Global,
     out: &mut Vec<u8>,
-    history: &History,
+    history: &NamedHistory,
     lemma: &Lemma,
 ) -> Result<(), AllocError>
     ensures { OnOk result (out.new.items ≡ out.old.items ++ lemma_picture history.now lemma.now) }
@@ -361,7 +369,7 @@ fn put_lemma(
 fn put_all_settled(
     alloc: Global,
     out: &mut Vec<u8>,
-    history: &History,
+    history: &NamedHistory,
     facts: &[Settled],
 ) -> Result<(), AllocError>
     ensures { OnOk result (out.new.items ≡ out.old.items ++ flat_map (settled_picture history.now) facts.now) }
@@ -376,7 +384,7 @@ fn put_all_settled(
 fn put_all_lemmas(
     alloc: Global,
     out: &mut Vec<u8>,
-    history: &History,
+    history: &NamedHistory,
     lemmas: &[Lemma],
 ) -> Result<(), AllocError>
     ensures { OnOk result (out.new.items ≡ out.old.items ++ flat_map (lemma_picture history.now) lemmas.now) }
@@ -390,7 +398,7 @@ fn put_all_lemmas(
 /// The rounds of a refutation, each as an SVG, one behind the other.
 pub fn refuted_pictures(
     alloc: Global,
-    history: &History,
+    history: &NamedHistory,
     refutation: &Refutation,
 ) -> Result<Vec<u8>, AllocError>
     ensures { IfOk result (λ text. text.items ≡ refuted_pictures history.now refutation.now) }

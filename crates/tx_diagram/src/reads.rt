@@ -7,13 +7,13 @@ use crate::boxes::{put_box_of, shown_of};
 use crate::drawing::put_quoted;
 use std::alloc::{AllocError, Global};
 use tx_acts::put_read_shown;
-use tx_import::History;
+use tx_import::NamedHistory;
 use tx_ring::{Subject, Tie, put_close, put_end_of_box, put_head, put_tie, reach_of};
 use tx_verdict::{Fact, Rule};
 use tx_verdict_text::{put_id, put_key, put_known_value, rule_word};
 
 // What was read: a key, and its value.
-fn read_text(alloc: Global, history: &History, fact: Fact) -> Result<Vec<u8>, AllocError>
+fn read_text(alloc: Global, history: &NamedHistory, fact: Fact) -> Result<Vec<u8>, AllocError>
     ensures { IfOk result (λ text. text.items ≡ read_text history.now fact) }
 {
     let mut text = Vec::new(alloc);
@@ -60,7 +60,7 @@ fn tie_of(rule: Rule) -> Tie
 }
 
 // What shows the read.
-fn shown(alloc: Global, history: &History, fact: Fact) -> Result<Vec<u8>, AllocError>
+fn shown(alloc: Global, history: &NamedHistory, fact: Fact) -> Result<Vec<u8>, AllocError>
     ensures { IfOk result (λ text. text.items ≡ read_shown history.now fact) }
 {
     let mut text = Vec::new(alloc);
@@ -72,7 +72,7 @@ fn shown(alloc: Global, history: &History, fact: Fact) -> Result<Vec<u8>, AllocE
 fn put_tied(
     alloc: Global,
     out: &mut Vec<u8>,
-    history: &History,
+    history: &NamedHistory,
     fact: Fact,
     rows: usize,
     tie: Tie,
@@ -86,7 +86,7 @@ fn put_tied(
 }
 
 // How many operations are shown of a transaction.
-fn rows_of(alloc: Global, history: &History, fact: Fact, txn: u32) -> Result<usize, AllocError>
+fn rows_of(alloc: Global, history: &NamedHistory, fact: Fact, txn: u32) -> Result<usize, AllocError>
     ensures { IfOk result (λ rows. rows ≡ rows_of history.now fact txn) }
 {
     let shown = shown_of(alloc, history, &[fact.key], txn)?;
@@ -94,7 +94,7 @@ fn rows_of(alloc: Global, history: &History, fact: Fact, txn: u32) -> Result<usi
 }
 
 // How many rows each box has.
-fn most_rows(alloc: Global, history: &History, fact: Fact) -> Result<usize, AllocError>
+fn most_rows(alloc: Global, history: &NamedHistory, fact: Fact) -> Result<usize, AllocError>
     ensures { IfOk result (λ rows. rows ≡ most_rows history.now fact fact.by) }
 {
     let rows = rows_of(alloc, history, fact, fact.txn)?;
@@ -111,7 +111,7 @@ fn most_rows(alloc: Global, history: &History, fact: Fact) -> Result<usize, Allo
 fn put_box_at(
     alloc: Global,
     out: &mut Vec<u8>,
-    history: &History,
+    history: &NamedHistory,
     fact: Fact,
     rows: usize,
     place: usize,
@@ -129,7 +129,7 @@ fn put_box_at(
 fn put_alone(
     alloc: Global,
     out: &mut Vec<u8>,
-    history: &History,
+    history: &NamedHistory,
     fact: Fact,
     rows: usize,
 ) -> Result<(), AllocError>
@@ -144,7 +144,7 @@ fn put_alone(
 fn put_pair(
     alloc: Global,
     out: &mut Vec<u8>,
-    history: &History,
+    history: &NamedHistory,
     fact: Fact,
     rows: usize,
     other: u32,
@@ -163,7 +163,7 @@ fn put_pair(
 fn put_boxes(
     alloc: Global,
     out: &mut Vec<u8>,
-    history: &History,
+    history: &NamedHistory,
     fact: Fact,
     rows: usize,
 ) -> Result<(), AllocError>
@@ -186,7 +186,7 @@ fn boxes_of(by: Option<u32>) -> usize
 fn put_framed(
     alloc: Global,
     out: &mut Vec<u8>,
-    history: &History,
+    history: &NamedHistory,
     fact: Fact,
     rows: usize,
     reach: usize,
@@ -201,7 +201,11 @@ fn put_framed(
 }
 
 /// A read that cannot be as an SVG.
-pub fn read_picture(alloc: Global, history: &History, fact: Fact) -> Result<Vec<u8>, AllocError>
+pub fn read_picture(
+    alloc: Global,
+    history: &NamedHistory,
+    fact: Fact,
+) -> Result<Vec<u8>, AllocError>
     ensures { IfOk result (λ text. text.items ≡ read_picture history.now fact) }
 {
     let label = read_text(alloc, history, fact)?;
@@ -225,7 +229,7 @@ fn put_tip(out: &mut Vec<u8>, tie: Tie) -> Result<(), AllocError>
 // Appends the reader, with words beside it.
 fn put_reader(
     out: &mut Vec<u8>,
-    history: &History,
+    history: &NamedHistory,
     fact: Fact,
     label: &[u8],
 ) -> Result<(), AllocError>
@@ -241,7 +245,7 @@ fn put_reader(
 // Appends the edge that leads to the reader from the other.
 fn put_edge(
     out: &mut Vec<u8>,
-    history: &History,
+    history: &NamedHistory,
     fact: Fact,
     other: u32,
     label: &[u8],
@@ -260,7 +264,7 @@ fn put_edge(
 // Appends the reader, or the edge that leads there.
 fn put_told(
     out: &mut Vec<u8>,
-    history: &History,
+    history: &NamedHistory,
     fact: Fact,
     label: &[u8],
 ) -> Result<(), AllocError>
@@ -273,7 +277,11 @@ fn put_told(
 }
 
 /// A read that cannot be as a graph for Graphviz.
-pub fn read_drawing(alloc: Global, history: &History, fact: Fact) -> Result<Vec<u8>, AllocError>
+pub fn read_drawing(
+    alloc: Global,
+    history: &NamedHistory,
+    fact: Fact,
+) -> Result<Vec<u8>, AllocError>
     ensures { IfOk result (λ text. text.items ≡ read_drawing history.now fact) }
 {
     let label = read_text(alloc, history, fact)?;

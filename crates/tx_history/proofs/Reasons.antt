@@ -10,7 +10,7 @@ use Rattle.tx_order.proofs.Marks.{same_edge}
 use Rattle.tx_history.specs.Histories.{History}
 use Rattle.tx_history.specs.declared.recorded.Read.{Read}
 use Rattle.tx_history.specs.declared.recorded.Recorded.{Recorded}
-use Rattle.tx_history.specs.declared.dependency.Kind.TheVariants.{Wr, Rw}
+use Rattle.tx_history.specs.declared.dependency.DependencyKind.TheVariants.{Wr, Rw}
 use Rattle.tx_history.specs.declared.dependency.Dependency.{Dependency}
 use Rattle.tx_history.specs.Records.{writers_of, history_of}
 use Rattle.tx_history.specs.Graph.{IsEdge, IsWw, IsWr, IsRw, IsAfter, IsCycleOf, before_edge, after_edge}

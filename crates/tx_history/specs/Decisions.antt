@@ -1,8 +1,8 @@
 -- What a decision says of a history.
 use Rattle.std.specs.Prelude.{◌≡◌, ℕ, ◌<◌, List, length, slice_index}
 use Rattle.tx_history.specs.Histories.{History, IsAssignment}
-use Rattle.tx_history.specs.declared.decision.Decision.{Decision}
-use Rattle.tx_history.specs.declared.decision.Decision.TheVariants.{Yes, No}
+use Rattle.tx_history.specs.declared.decision.HistoryDecision.{HistoryDecision}
+use Rattle.tx_history.specs.declared.decision.HistoryDecision.TheVariants.{Yes, No}
 use Rattle.tx_history.specs.Graph.{IsCycleOf}
 
 -- These are its timestamps, one start and one commit a transaction, and no two start at one.
@@ -13,6 +13,6 @@ pub record AreTimestamps (h : History) (starts commits : List ℕ) : Type 0 wher
   pub distinct : (t u : ℕ) → t < h.txns → u < h.txns → slice_index starts t ≡ slice_index starts u → t ≡ u
 
 -- yes: these are its timestamps; no: it has none, and these nodes are a cycle of its graph
-abbrev pub IsDecision : History → Decision → Type 0
+abbrev pub IsDecision : History → HistoryDecision → Type 0
 IsDecision h (Yes starts commits) = AreTimestamps h starts.items commits.items
 IsDecision h (No nodes) = IsCycleOf h nodes.items × ((start commit : ℕ → ℕ) → IsAssignment h start commit → ⊥)

@@ -2,14 +2,14 @@
 use Rattle.std.specs.Prelude.{◌≡◌, ℕ, ◌+◌, ◌-◌, ◌<◌, ◌≤◌, List, length, Contains, Some, slice_get, slice_index, nat_lt, if◌then◌else◌}
 use Rattle.tx_order.specs.declared.graph.Edge.{Edge}
 use Rattle.tx_history.specs.declared.recorded.Read.{Read}
-use Rattle.tx_history.specs.declared.dependency.Kind.{Kind}
-use Rattle.tx_history.specs.declared.dependency.Kind.TheVariants.{Own, Ww, Wr, Rw, After}
+use Rattle.tx_history.specs.declared.dependency.DependencyKind.{DependencyKind}
+use Rattle.tx_history.specs.declared.dependency.DependencyKind.TheVariants.{Own, Ww, Wr, Rw, After}
 use Rattle.tx_history.specs.declared.dependency.Dependency.{Dependency}
 use Rattle.tx_history.specs.Histories.{History, HasVersion}
 use Rattle.tx_history.specs.Graph.{before_edge, after_edge}
 
 -- what each kind says of two transactions, a key and a version, or the place of a pair
-abbrev pub Depends : History → Kind → ℕ → ℕ → ℕ → ℕ → Type 0
+abbrev pub Depends : History → DependencyKind → ℕ → ℕ → ℕ → ℕ → Type 0
 Depends h Own from to key version = (from < h.txns) × (from ≡ to)
 Depends h Ww from to key version = HasVersion h key version × HasVersion h key (version + 1)
     × (h.writer key version ≡ from) × (h.writer key (version + 1) ≡ to)
@@ -20,7 +20,7 @@ Depends h Rw from to key version = Contains h.reads record { txn = from; key = k
 Depends h After from to key version = slice_get h.after version ≡ Some record { earlier = from; later = to }
 
 -- the edge of each kind
-abbrev pub edge_of : Kind → ℕ → ℕ → Edge
+abbrev pub edge_of : DependencyKind → ℕ → ℕ → Edge
 edge_of Own from to = before_edge from to
 edge_of Rw from to = before_edge from to
 edge_of Ww from to = after_edge from to

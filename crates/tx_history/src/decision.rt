@@ -11,7 +11,7 @@ use tx_order::{Unordered, order, shorten};
 
 /// Whether a history has timestamps.
 #[derive(Debug, Drop)]
-pub enum Decision {
+pub enum HistoryDecision {
     /// These are the starts and the commits of its transactions, each a number of its own.
     Yes(Vec<usize>, Vec<usize>),
     /// It has none, since these nodes are a cycle of its graph: `2 * t` is the start of `t`,
@@ -43,7 +43,7 @@ fn every_other(
 /// its graph, of as few nodes as `shorten` finds.
 ///
 /// `AllocError` where there was no room to find out.
-pub fn decide(alloc: Global, recorded: &Recorded) -> Result<Decision, AllocError>
+pub fn decide(alloc: Global, recorded: &Recorded) -> Result<HistoryDecision, AllocError>
     requires { IsRecorded recorded.now }
     ensures { IfOk result (IsDecision (history_of recorded.now)) }
 {
@@ -55,11 +55,11 @@ pub fn decide(alloc: Global, recorded: &Recorded) -> Result<Decision, AllocError
         Ok(places) => {
             let starts = every_other(alloc, places.as_slice(), 0, txns)?;
             let commits = every_other(alloc, places.as_slice(), 1, txns)?;
-            Ok(Decision::Yes(starts, commits))
+            Ok(HistoryDecision::Yes(starts, commits))
         }
         Err(Unordered::Cycle(nodes)) => {
             let least = shorten(alloc, 2 * recorded.txns, &mut graph, nodes.as_slice())?;
-            Ok(Decision::No(least))
+            Ok(HistoryDecision::No(least))
         }
         Err(Unordered::Memory) => Err(AllocError),
     }

@@ -9,7 +9,7 @@ use std::alloc::{AllocError, Global};
 
 /// Why one moment lies below another under all timestamps of a history.
 #[derive(Clone, Copy, Debug, PartialEq, Eq)]
-pub enum Kind {
+pub enum DependencyKind {
     /// A transaction starts before it commits.
     Own,
     /// The first wrote a version, and the second the next: so it started when the first had
@@ -27,7 +27,7 @@ pub enum Kind {
 /// One transaction depends on another.
 #[derive(Clone, Copy, Debug, PartialEq, Eq)]
 pub struct Dependency {
-    pub kind: Kind,
+    pub kind: DependencyKind,
     pub from: u32,
     pub to: u32,
     /// The key, 0 for `Own` and `After`.
@@ -45,7 +45,7 @@ fn ww_in(writers: &[u32], key: usize, from: u32, to: u32) -> Option<Dependency>
     for i in 1..writers.len() {
         if writers[i - 1] == from && writers[i] == to {
             return Some(Dependency {
-                kind: Kind::Ww,
+                kind: DependencyKind::Ww,
                 from,
                 to,
                 key,
@@ -103,7 +103,7 @@ fn wr(recorded: &Recorded, from: u32, to: u32) -> Option<Dependency>
         let writers = recorded.writers_of(read.key as usize);
         if is_seen(writers, read, from, to) {
             return Some(Dependency {
-                kind: Kind::Wr,
+                kind: DependencyKind::Wr,
                 from,
                 to,
                 key: read.key as usize,
@@ -125,7 +125,7 @@ fn rw(recorded: &Recorded, from: u32, to: u32) -> Option<Dependency>
         let writers = recorded.writers_of(read.key as usize);
         if is_next(writers, read, from, to) {
             return Some(Dependency {
-                kind: Kind::Rw,
+                kind: DependencyKind::Rw,
                 from,
                 to,
                 key: read.key as usize,
@@ -145,7 +145,7 @@ fn after(recorded: &Recorded, from: u32, to: u32) -> Option<Dependency>
         let pair = recorded.after[i];
         if pair.earlier == from && pair.later == to {
             return Some(Dependency {
-                kind: Kind::After,
+                kind: DependencyKind::After,
                 from,
                 to,
                 key: 0,
@@ -179,7 +179,7 @@ fn reason_before(recorded: &Recorded, from: u32, to: u32) -> Option<Dependency>
 {
     if from == to && from < recorded.txns {
         return Some(Dependency {
-            kind: Kind::Own,
+            kind: DependencyKind::Own,
             from,
             to,
             key: 0,

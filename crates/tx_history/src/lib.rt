@@ -10,8 +10,8 @@ mod graph;
 mod laws;
 mod recorded;
 
-pub use decision::{Decision, decide};
-pub use dependency::{Dependency, Kind, dependencies};
+pub use decision::{HistoryDecision, decide};
+pub use dependency::{Dependency, DependencyKind, dependencies};
 pub use graph::edges;
 pub use laws::{
     assignments_are_orders, cycles_refuse_assignments, orders_are_assignments,

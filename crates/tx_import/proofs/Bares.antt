@@ -6,8 +6,8 @@ use Rattle.std.proofs.lemmas.List.{get_or_default, get_or-set_same, get_or-set_o
 use Rattle.std.proofs.lemmas.List.Elements.{All-weaker}
 use Rattle.tx_recording.specs.declared.recording.Act.{Act}
 use Rattle.tx_recording.specs.declared.recording.Act.TheVariants.{Append, Write, Read}
-use Rattle.tx_recording.specs.declared.recording.Op.{Op}
-use Rattle.tx_recording.specs.declared.recording.Transaction.{Transaction}
+use Rattle.tx_recording.specs.declared.recording.RecordedOp.{RecordedOp}
+use Rattle.tx_recording.specs.declared.recording.RecordedTransaction.{RecordedTransaction}
 use Rattle.tx_recording.specs.declared.recording.Recording.{Recording}
 use Rattle.tx_recording.specs.Recordings.{IsRecording, IsTransactionOf, IsActOf, IsOpOf, txns_of, transaction_at, no_transaction}
 use Rattle.tx_import.specs.Numbers.{AreInTurn}
@@ -45,11 +45,12 @@ pub all_marked : (elements : List ℕ) (read : List Bool) → AreMarkedTo elemen
 all_marked elements read marked v there = each_by_place (λ q. get_or read q false ≡ true) elements 0 marked v there
 
 -- one more transaction
-pub bare_more : (r : Recording) (ts new : List Transaction) (n : ℕ) (b : Transaction) → new ≡ ts ++ b ∷ []
+pub bare_more : (r : Recording) (ts new : List RecordedTransaction) (n : ℕ) (b : RecordedTransaction)
+    → new ≡ ts ++ b ∷ []
     → ((b ≡ transaction_at r n) ⊎ (IsUnread r n × (b ≡ emptied (transaction_at r n)))) → AreBare r ts n
     → AreBare r new (n + 1)
 bare_more r ts new n b is one (count, old) =
-    let Q : ℕ → Transaction → Type 0 = λ t q. (q ≡ transaction_at r t)
+    let Q : ℕ → RecordedTransaction → Type 0 = λ t q. (q ≡ transaction_at r t)
     ⊎ (IsUnread r t × (q ≡ emptied (transaction_at r t))) in
     let P : ℕ → Type 0 = λ t. Q t (get_or (ts ++ b ∷ []) t no_transaction) in
     let last : get_or (ts ++ b ∷ []) n no_transaction ≡ b = get_or_push ts b no_transaction n count in
@@ -68,29 +69,31 @@ act_same r b values elements (Write v) is = subst (λ q. v < q) (sym values) is
 act_same r b values elements (Read span) is =
     subst (λ (q : Vec ℕ Global). span.first + span.count ≤ length q.items) (sym elements) is
 
-ranged : (r : Recording) (t : Transaction) (n : ℕ) → IsRecording r → n < txns_of r
+ranged : (r : Recording) (t : RecordedTransaction) (n : ℕ) → IsRecording r → n < txns_of r
     → ((t ≡ transaction_at r n) ⊎ (IsUnread r n × (t ≡ emptied (transaction_at r n))))
     → IsTransactionOf (length r.ops.items) t
 ranged r t n is lt (inl same) =
-    subst (λ (q : Transaction). IsTransactionOf (length r.ops.items) q) (sym same) (is.transactions n no_transaction lt)
+    subst (λ (q : RecordedTransaction). IsTransactionOf (length r.ops.items) q)
+        (sym same) (is.transactions n no_transaction lt)
 ranged r t n is lt (inr (unread, same)) =
     let old = is.transactions n no_transaction lt in
     let a = old.0 in
     let b = old.1 in
-    subst (λ (q : Transaction). IsTransactionOf (length r.ops.items) q) (sym same) (omega arith, omega (arith, a, b))
+    subst (λ (q : RecordedTransaction). IsTransactionOf (length r.ops.items) q) (sym same)
+        (omega arith, omega (arith, a, b))
 
 -- it is a recording as well
 pub bare_recording : (r b : Recording) → IsRecording r → IsBare r b → IsRecording b
 bare_recording r b is bare = record {
   few = subst (λ q. q < 2 ^ 30) (sym bare.transactions.0) is.few;
-  short = subst (λ (q : Vec Op Global). length q.items < 2 ^ 32) (sym bare.ops) is.short;
+  short = subst (λ (q : Vec RecordedOp Global). length q.items < 2 ^ 32) (sym bare.ops) is.short;
   transactions = λ k d lt. subst (λ q. IsTransactionOf q (get_or b.transactions.items k d))
-      (ap (λ (q : Vec Op Global). length q.items) (sym bare.ops))
-      (subst (λ (q : Transaction). IsTransactionOf (length r.ops.items) q)
+      (ap (λ (q : Vec RecordedOp Global). length q.items) (sym bare.ops))
+      (subst (λ (q : RecordedTransaction). IsTransactionOf (length r.ops.items) q)
       (get_or_default b.transactions.items k no_transaction d lt)
       (ranged r (get_or b.transactions.items k no_transaction) k is (subst (λ q. k < q) bare.transactions.0 lt)
       (bare.transactions.1 k (subst (λ q. k < q) bare.transactions.0 lt))));
-  ops = subst (λ (q : Vec Op Global). All (IsOpOf b) q.items) (sym bare.ops) (All-weaker (IsOpOf r) (IsOpOf b)
+  ops = subst (λ (q : Vec RecordedOp Global). All (IsOpOf b) q.items) (sym bare.ops) (All-weaker (IsOpOf r) (IsOpOf b)
       (λ o one. (subst (λ q. o.key < q) (sym bare.keys) one.0, act_same r b bare.values bare.elements o.act one.1))
       r.ops.items is.ops);
   elements = subst (λ q. All (λ v. v < q) b.elements.items) (sym bare.values)
@@ -98,16 +101,16 @@ bare_recording r b is bare = record {
 }
 
 -- it begins where it began, and ends no later
-at_most : (r : Recording) (t : Transaction) (n : ℕ) → IsRecording r → n < txns_of r
+at_most : (r : Recording) (t : RecordedTransaction) (n : ℕ) → IsRecording r → n < txns_of r
     → ((t ≡ transaction_at r n) ⊎ (IsUnread r n × (t ≡ emptied (transaction_at r n))))
     → (t.first ≡ (transaction_at r n).first) × (t.upto ≤ (transaction_at r n).upto)
 at_most r t n is lt (inl same) =
-    let upto = ap (λ (q : Transaction). q.upto) same in
-    (ap (λ (q : Transaction). q.first) same, omega (arith, upto))
+    let upto = ap (λ (q : RecordedTransaction). q.upto) same in
+    (ap (λ (q : RecordedTransaction). q.first) same, omega (arith, upto))
 at_most r t n is lt (inr (unread, same)) =
     let old = is.transactions n no_transaction lt in
-    let upto = ap (λ (q : Transaction). q.upto) same in
-    (ap (λ (q : Transaction). q.first) same, omega (arith, upto, old.0))
+    let upto = ap (λ (q : RecordedTransaction). q.upto) same in
+    (ap (λ (q : RecordedTransaction). q.first) same, omega (arith, upto, old.0))
 
 -- the operations of each still stand behind those of the ones before it
 pub bare_in_turn : (r b : Recording) → IsRecording r → IsBare r b → AreInTurn r.transactions.items
@@ -120,7 +123,7 @@ bare_in_turn r b is bare in_turn i j d lt within =
     let one = at_most r (get_or ts i no_transaction) i is before (bare.transactions.1 i before) in
     let other = at_most r (get_or ts j no_transaction) j is there (bare.transactions.1 j there) in
     let apart : (transaction_at r i).upto ≤ (transaction_at r j).first = in_turn i j no_transaction lt there in
-    let P : Transaction → Transaction → Type 0 = λ t u. t.upto ≤ u.first in
+    let P : RecordedTransaction → RecordedTransaction → Type 0 = λ t u. t.upto ≤ u.first in
     subst (λ t. P t (get_or ts j d)) (get_or_default ts i no_transaction d early)
     (subst (λ u. P (get_or ts i no_transaction) u) (get_or_default ts j no_transaction d within)
     (omega (arith, one.1, other.0, apart)))

@@ -5,8 +5,8 @@ use Rattle.std.proofs.lemmas.List.Elements.{All-weaker, All-push}
 use Rattle.std.proofs.lemmas.Option.{slice_get_within}
 use Rattle.tx_recording.specs.declared.recording.Act.{Act}
 use Rattle.tx_recording.specs.declared.recording.Act.TheVariants as act
-use Rattle.tx_recording.specs.declared.recording.Op.{Op}
-use Rattle.tx_recording.specs.declared.recording.Transaction.{Transaction}
+use Rattle.tx_recording.specs.declared.recording.RecordedOp.{RecordedOp}
+use Rattle.tx_recording.specs.declared.recording.RecordedTransaction.{RecordedTransaction}
 use Rattle.tx_recording.specs.declared.recording.Recording.{Recording}
 use Rattle.tx_recording.specs.Recordings.{IsRecording, IsTransactionOf, IsActOf, IsOpOf}
 use Rattle.tx_import.specs.declared.names.KeyedValue.{KeyedValue}
@@ -28,7 +28,7 @@ act_stays v w e f (act.Append n) more longer h = omega (arith, more, h)
 act_stays v w e f (act.Write n) more longer h = omega (arith, more, h)
 act_stays v w e f (act.Read span) more longer h = omega (arith, longer, h)
 
-pub ops_stay : (k l v w e f : ℕ) (os : List Op) → k ≤ l → v ≤ w → e ≤ f → All (IsOpIn k v e) os
+pub ops_stay : (k l v w e f : ℕ) (os : List RecordedOp) → k ≤ l → v ≤ w → e ≤ f → All (IsOpIn k v e) os
     → All (IsOpIn l w f) os
 ops_stay k l v w e f os keys values longer h =
     All-weaker (IsOpIn k v e) (IsOpIn l w f)
@@ -47,7 +47,7 @@ act_there values xs key (act.Write v) (said.Read names) h = absurd h
 act_there values xs key (act.Read span) (said.Append name) h = absurd h
 act_there values xs key (act.Read span) (said.Write name) h = absurd h
 
-pub op_there : (tables : Tables) (xs : List ℕ) (o : Op) (s : SaidOp) → IsOpSaid tables xs o s
+pub op_there : (tables : Tables) (xs : List ℕ) (o : RecordedOp) (s : SaidOp) → IsOpSaid tables xs o s
     → IsOpIn (length tables.keys) (length tables.values) (length xs) o
 op_there tables xs o s h =
     (slice_get_within tables.keys o.key s.key h.0, act_there tables.values xs o.key o.act s.act h.1)
@@ -59,7 +59,7 @@ act_of r (act.Append v) h = h
 act_of r (act.Write v) h = h
 act_of r (act.Read span) h = h
 
-ops_of : (r : Recording) (os : List Op) → All (IsOpIn r.keys r.values (length r.elements.items)) os
+ops_of : (r : Recording) (os : List RecordedOp) → All (IsOpIn r.keys r.values (length r.elements.items)) os
     → All (IsOpOf r) os
 ops_of r os h =
     All-weaker (IsOpIn r.keys r.values (length r.elements.items)) (IsOpOf r) (λ o is. (is.0, act_of r o.act is.1)) os h
@@ -90,7 +90,7 @@ draft_adds old new said s grows (t, is, one) before =
     let all : AllZip P old.transactions.items said =
     zip_to (IsTransactionSaid old.tables old.elements.items old.ops.items) P
     (λ t s h. transaction_grows old new t s grows h) old.transactions.items said before in
-    let Q : List Transaction → Type 0 = λ ts. AllZip P ts (said ++ s ∷ []) in
+    let Q : List RecordedTransaction → Type 0 = λ ts. AllZip P ts (said ++ s ∷ []) in
     subst Q (sym is) (zip_push P old.transactions.items said t s all one)
 
 pub counts_one : (old new : Draft) (s : SaidTransaction) → AddsTransaction old new s
@@ -108,5 +108,5 @@ ranges_stay old new s grows (t, is, one) all =
     let before : All P old.transactions.items =
     All-weaker (IsTransactionOf (length old.ops.items)) P (λ t h. (h.0, omega (arith, longer, h.1)))
     old.transactions.items all in
-    let Q : List Transaction → Type 0 = λ ts. All P ts in
+    let Q : List RecordedTransaction → Type 0 = λ ts. All P ts in
     subst Q (sym is) (All-push P old.transactions.items t before one.range)

@@ -8,8 +8,8 @@ use Rattle.std.proofs.Math.ListN.{get_or-append}
 use Rattle.std.proofs.Math.Seq.{drop-append_seam, take-length}
 use Rattle.tx_recording.specs.declared.recording.Act.{Act}
 use Rattle.tx_recording.specs.declared.recording.Act.TheVariants as act
-use Rattle.tx_recording.specs.declared.recording.Op.{Op}
-use Rattle.tx_recording.specs.declared.recording.Transaction.{Transaction}
+use Rattle.tx_recording.specs.declared.recording.RecordedOp.{RecordedOp}
+use Rattle.tx_recording.specs.declared.recording.RecordedTransaction.{RecordedTransaction}
 use Rattle.tx_import.specs.declared.name.Name.{Name}
 use Rattle.tx_import.specs.declared.name.Scalar.{Scalar}
 use Rattle.tx_import.specs.declared.names.KeyedValue.{KeyedValue}
@@ -129,14 +129,14 @@ act_grows old new xs ys key (act.Write v) (said.Read names) g e h = absurd h
 act_grows old new xs ys key (act.Read span) (said.Append name) g e h = absurd h
 act_grows old new xs ys key (act.Read span) (said.Write name) g e h = absurd h
 
-pub op_grows : (old new : Tables) (xs ys : List ℕ) (o : Op) (s : SaidOp) → GrowsTables old new → Grows xs ys
+pub op_grows : (old new : Tables) (xs ys : List ℕ) (o : RecordedOp) (s : SaidOp) → GrowsTables old new → Grows xs ys
     → IsOpSaid old xs o s → IsOpSaid new ys o s
 op_grows old new xs ys o s g e h = (
   get_grows old.keys new.keys o.key s.key g.keys h.0,
   act_grows old.values new.values xs ys o.key o.act s.act g.values e h.1,
 )
 
-pub ops_grow : (old new : Tables) (xs ys : List ℕ) (os : List Op) (ss : List SaidOp) → GrowsTables old new
+pub ops_grow : (old new : Tables) (xs ys : List ℕ) (os : List RecordedOp) (ss : List SaidOp) → GrowsTables old new
     → Grows xs ys → AreOpsSaid old xs os ss → AreOpsSaid new ys os ss
 ops_grow old new xs ys os ss g e h =
     zip_to (IsOpSaid old xs) (IsOpSaid new ys) (λ o s is. op_grows old new xs ys o s g e is) os ss h
@@ -148,14 +148,14 @@ process_grows old new (Some n) (Some name) g h = get_grows old new n name g h
 process_grows old new None (Some name) g h = absurd h
 process_grows old new (Some n) None g h = absurd h
 
-pub transaction_grows : (old new : Draft) (t : Transaction) (s : SaidTransaction) → GrowsDraft old new
+pub transaction_grows : (old new : Draft) (t : RecordedTransaction) (s : SaidTransaction) → GrowsDraft old new
     → IsTransactionSaid old.tables old.elements.items old.ops.items t s
     → IsTransactionSaid new.tables new.elements.items new.ops.items t s
 transaction_grows old new t s g h =
     let longer = length_grows old.ops.items new.ops.items g.ops in
     let same : slice_range new.ops.items t.first t.upto ≡ slice_range old.ops.items t.first t.upto =
     range_grows old.ops.items new.ops.items t.first t.upto g.ops h.range.0 h.range.1 in
-    let P : List Op → Type 0 = λ l. AreOpsSaid new.tables new.elements.items l s.ops in
+    let P : List RecordedOp → Type 0 = λ l. AreOpsSaid new.tables new.elements.items l s.ops in
     record {
       id = h.id;
       outcome = h.outcome;

@@ -5,7 +5,7 @@ use Rattle.tx_types.specs.declared.fault.Cause.{Cause}
 use Rattle.tx_text.specs.Lines.{lines_of}
 use Rattle.tx_import.specs.declared.line_content.SaidTransaction.{SaidTransaction}
 use Rattle.tx_import.specs.declared.draft.Draft.{Draft}
-use Rattle.tx_import.specs.declared.reader.History.{History}
+use Rattle.tx_import.specs.declared.reader.NamedHistory.{NamedHistory}
 use Rattle.tx_import.specs.declared.reader.HistoryTurn.TheVariants as turn
 use Rattle.tx_import.specs.Drafts.{held, IsDraftOf}
 use Rattle.tx_import.specs.Histories.{said_in, Say, total, IsHistory, IsHistoryOf, SayUpTo, IsFault, IsFaultOf}
@@ -77,7 +77,7 @@ module _ {input : List ℕ} {left : Option (List ℕ)} {d : Draft} {number : ℕ
   at_rest t turns = left_at (λ bytes. HistoryTurns bytes left' d next (number + 1) t) left soon.rest soon.is_left turns
 
   -- at the end all lines were read
-  pub ended : (h : History) → ((said : List SaidTransaction) → IsDraftOf next said → IsHistory h said)
+  pub ended : (h : NamedHistory) → ((said : List SaidTransaction) → IsDraftOf next said → IsHistory h said)
       → IfSome left (λ bytes. HistoryTurns bytes left' d next (number + 1) turn.End) → IsHistoryOf (lines_of input) h
   ended h is turns =
       let found = at_rest turn.End turns in

@@ -3,8 +3,8 @@ use Rattle.std.specs.Prelude.{◌≡◌, ℕ, ◌+◌, ◌^◌, ◌<◌, ◌≤�
 use Rattle.std.specs.List.{AllZip}
 use Rattle.tx_recording.specs.declared.recording.Act.{Act}
 use Rattle.tx_recording.specs.declared.recording.Act.TheVariants as act
-use Rattle.tx_recording.specs.declared.recording.Op.{Op}
-use Rattle.tx_recording.specs.declared.recording.Transaction.{Transaction}
+use Rattle.tx_recording.specs.declared.recording.RecordedOp.{RecordedOp}
+use Rattle.tx_recording.specs.declared.recording.RecordedTransaction.{RecordedTransaction}
 use Rattle.tx_recording.specs.Recordings.{IsTransactionOf}
 use Rattle.tx_import.specs.declared.line_content.SaidAct.{SaidAct}
 use Rattle.tx_import.specs.declared.line_content.SaidAct.TheVariants.{Append, Write, Read}
@@ -47,7 +47,7 @@ IsActIn values elements (act.Append v) = v < values
 IsActIn values elements (act.Write v) = v < values
 IsActIn values elements (act.Read span) = span.first + span.count ≤ elements
 
-abbrev pub IsOpIn : ℕ → ℕ → ℕ → Op → Type 0
+abbrev pub IsOpIn : ℕ → ℕ → ℕ → RecordedOp → Type 0
 IsOpIn keys values elements o = (o.key < keys) × IsActIn values elements o.act
 
 -- all that is named is there; there are no more names than operations that name them, and few of
@@ -69,12 +69,12 @@ pub record FitsDraft (d : Draft) : Type 0 where
 
 -- operations were added that are what was said of them
 abbrev pub AddsOps : Draft → Draft → List SaidOp → Type 0
-AddsOps old new said = (ops : List Op) × (new.ops.items ≡ old.ops.items ++ ops)
+AddsOps old new said = (ops : List RecordedOp) × (new.ops.items ≡ old.ops.items ++ ops)
     × AreOpsSaid new.tables new.elements.items ops said
 
 -- a transaction was added that is what was said of it
 abbrev pub AddsTransaction : Draft → Draft → SaidTransaction → Type 0
-AddsTransaction old new said = (t : Transaction) × (new.transactions.items ≡ old.transactions.items ++ t ∷ [])
+AddsTransaction old new said = (t : RecordedTransaction) × (new.transactions.items ≡ old.transactions.items ++ t ∷ [])
     × IsTransactionSaid new.tables new.elements.items new.ops.items t said
 
 -- the transactions are what was said of them, one by one

@@ -8,7 +8,7 @@ use Rattle.tx_text.specs.Lines.{max_line, max_lines}
 use Rattle.tx_text.specs.Parts.{json_of}
 use Rattle.tx_recording.specs.Recordings.{IsRecording}
 use Rattle.tx_import.specs.declared.line_content.SaidTransaction.{SaidTransaction}
-use Rattle.tx_import.specs.declared.reader.History.{History}
+use Rattle.tx_import.specs.declared.reader.NamedHistory.{NamedHistory}
 use Rattle.tx_import.specs.declared.reader.LineFault.{LineFault}
 use Rattle.tx_import.specs.Said.{transaction_of}
 use Rattle.tx_import.specs.Numbers.{AreApart, IsTransactionSaid}
@@ -45,7 +45,7 @@ total (t ∷ ts) = weight t.ops + total ts
 
 -- the recording is what was said: its transactions are those, in order, by the names of its
 -- numbers, and no two numbers have one name
-pub record IsHistory (h : History) (said : List SaidTransaction) : Type 0 where
+pub record IsHistory (h : NamedHistory) (said : List SaidTransaction) : Type 0 where
   pub recording : IsRecording h.recording
   pub keys : h.recording.keys ≡ length h.tables.keys
   pub values : h.recording.values ≡ length h.tables.values
@@ -56,7 +56,7 @@ pub record IsHistory (h : History) (said : List SaidTransaction) : Type 0 where
       h.recording.transactions.items said
 
 -- all lines say transactions, and the recording is that of them
-abbrev pub IsHistoryOf : List (List ℕ) → History → Type 0
+abbrev pub IsHistoryOf : List (List ℕ) → NamedHistory → Type 0
 IsHistoryOf lines h = (said : List SaidTransaction) × Say 1 lines said × IsHistory h said
 
 -- the lines before one say transactions

@@ -3,8 +3,8 @@ use Rattle.std.specs.Prelude.{◌≡◌, ◌≢◌, ℕ, ◌+◌, ◌≤◌, Lis
 use Rattle.std.specs.List.{AllZip, AllPairs}
 use Rattle.tx_recording.specs.declared.recording.Act.{Act}
 use Rattle.tx_recording.specs.declared.recording.Act.TheVariants as act
-use Rattle.tx_recording.specs.declared.recording.Op.{Op}
-use Rattle.tx_recording.specs.declared.recording.Transaction.{Transaction}
+use Rattle.tx_recording.specs.declared.recording.RecordedOp.{RecordedOp}
+use Rattle.tx_recording.specs.declared.recording.RecordedTransaction.{RecordedTransaction}
 use Rattle.tx_import.specs.declared.name.Name.{Name}
 use Rattle.tx_import.specs.declared.name.Scalar.{Scalar}
 use Rattle.tx_import.specs.declared.names.KeyedValue.{KeyedValue}
@@ -23,7 +23,7 @@ abbrev pub AreApart : {A : Type 0} → List A → Type 0
 AreApart xs = AllPairs (λ x y. x ≢ y) xs
 
 -- the operations of each transaction stand behind those of the transactions before it
-abbrev pub AreInTurn : List Transaction → Type 0
+abbrev pub AreInTurn : List RecordedTransaction → Type 0
 AreInTurn ts = AllPairs (λ t u. t.upto ≤ u.first) ts
 
 -- the name that has this number
@@ -47,11 +47,11 @@ IsActSaid values elements key (act.Read span) (said.Read found) = (span.first + 
 IsActSaid values elements key _ _ = ⊥
 
 -- an operation is what was said of it
-abbrev pub IsOpSaid : Tables → List ℕ → Op → SaidOp → Type 0
+abbrev pub IsOpSaid : Tables → List ℕ → RecordedOp → SaidOp → Type 0
 IsOpSaid tables elements op said = IsNameOf tables.keys op.key said.key
     × IsActSaid tables.values elements op.key op.act said.act
 
-abbrev pub AreOpsSaid : Tables → List ℕ → List Op → List SaidOp → Type 0
+abbrev pub AreOpsSaid : Tables → List ℕ → List RecordedOp → List SaidOp → Type 0
 AreOpsSaid tables elements ops said = AllZip (IsOpSaid tables elements) ops said
 
 -- a process is the one that was said, where one was
@@ -61,7 +61,7 @@ IsProcessSaid processes (Some n) (Some name) = IsNameOf processes n name
 IsProcessSaid processes _ _ = ⊥
 
 -- a transaction is what was said of it
-pub record IsTransactionSaid (tables : Tables) (elements : List ℕ) (ops : List Op) (t : Transaction)
+pub record IsTransactionSaid (tables : Tables) (elements : List ℕ) (ops : List RecordedOp) (t : RecordedTransaction)
     (said : SaidTransaction) : Type 0 where
   pub id : t.id ≡ said.id
   pub outcome : t.outcome ≡ said.outcome

@@ -2,14 +2,14 @@
 -- nothing.
 use Rattle.std.specs.Prelude.{◌≡◌, ◌⊎◌, ℕ, ◌<◌, ◌≤◌, Bool, true, false, List, length, Contains, Some, slice_index_or}
 use Rattle.tx_recording.specs.declared.recording.Act.TheVariants.{Append, Write, Read}
-use Rattle.tx_recording.specs.declared.recording.Outcome.TheVariants.{Fail}
-use Rattle.tx_recording.specs.declared.recording.Op.{Op}
+use Rattle.tx_recording.specs.declared.recording.RecordedOutcome.TheVariants.{Fail}
+use Rattle.tx_recording.specs.declared.recording.RecordedOp.{RecordedOp}
 use Rattle.tx_recording.specs.declared.recording.Span.{Span}
-use Rattle.tx_recording.specs.declared.recording.Transaction.{Transaction}
+use Rattle.tx_recording.specs.declared.recording.RecordedTransaction.{RecordedTransaction}
 use Rattle.tx_recording.specs.declared.recording.Recording.{Recording}
 use Rattle.tx_recording.specs.Recordings.{txns_of, transaction_at, no_transaction, ops_of}
 use Rattle.tx_recording.specs.Explanations.{Puts}
-use Rattle.tx_import.specs.declared.reader.History.{History}
+use Rattle.tx_import.specs.declared.reader.NamedHistory.{NamedHistory}
 use Rattle.tx_import.specs.declared.recorder.Misrecorded.{Misrecorded}
 use Rattle.tx_import.specs.declared.recorder.Misrecorded.TheVariants.{Empty, EndsEarly, SameId, Mixed}
 
@@ -20,15 +20,15 @@ IsBackward r t = (b : ℕ) × (e : ℕ) × (e < b) × ((transaction_at r t).bega
 
 -- it appended to the key
 abbrev pub AppendsTo : Recording → ℕ → ℕ → Type 0
-AppendsTo r t k = (o : Op) × (v : ℕ) × Contains (ops_of r t) o × (o.key ≡ k) × (o.act ≡ Append v)
+AppendsTo r t k = (o : RecordedOp) × (v : ℕ) × Contains (ops_of r t) o × (o.key ≡ k) × (o.act ≡ Append v)
 
 -- it wrote the key
 abbrev pub WritesTo : Recording → ℕ → ℕ → Type 0
-WritesTo r t k = (o : Op) × (v : ℕ) × Contains (ops_of r t) o × (o.key ≡ k) × (o.act ≡ Write v)
+WritesTo r t k = (o : RecordedOp) × (v : ℕ) × Contains (ops_of r t) o × (o.key ≡ k) × (o.act ≡ Write v)
 
 -- it read several values of the key
 abbrev pub ReadsList : Recording → ℕ → ℕ → Type 0
-ReadsList r t k = (o : Op) × (span : Span) × Contains (ops_of r t) o × (o.key ≡ k) × (o.act ≡ Read span)
+ReadsList r t k = (o : RecordedOp) × (span : Span) × Contains (ops_of r t) o × (o.key ≡ k) × (o.act ≡ Read span)
     × (2 ≤ span.count)
 
 -- for t the key held a list
@@ -50,10 +50,10 @@ IsTimely r = (1 ≤ txns_of r) × ((t : ℕ) → t < txns_of r → IsBackward r 
 -- it failed, and nobody read a value of it
 abbrev pub IsUnread : Recording → ℕ → Type 0
 IsUnread r t = ((transaction_at r t).outcome ≡ Fail)
-    × ((o : Op) (v : ℕ) → Contains (ops_of r t) o → Puts o.act v → Contains r.elements.items v → ⊥)
+    × ((o : RecordedOp) (v : ℕ) → Contains (ops_of r t) o → Puts o.act v → Contains r.elements.items v → ⊥)
 
 -- the same without operations
-abbrev pub emptied : Transaction → Transaction
+abbrev pub emptied : RecordedTransaction → RecordedTransaction
 emptied t = record {
   id = t.id;
   outcome = t.outcome;
@@ -66,7 +66,7 @@ emptied t = record {
 
 -- the first so many are the same, but that some of those that failed and of whom nobody read a
 -- value have no operations
-abbrev pub AreBare : Recording → List Transaction → ℕ → Type 0
+abbrev pub AreBare : Recording → List RecordedTransaction → ℕ → Type 0
 AreBare r ts n = (length ts ≡ n) × ((t : ℕ) → t < n → (slice_index_or ts t no_transaction ≡ transaction_at r t)
     ⊎ (IsUnread r t × (slice_index_or ts t no_transaction ≡ emptied (transaction_at r t))))
 
@@ -83,5 +83,5 @@ pub record IsBare (r b : Recording) : Type 0 where
   pub transactions : AreBare r b.transactions.items (txns_of r)
 
 -- the same names
-abbrev pub IsBareOf : History → History → Type 0
+abbrev pub IsBareOf : NamedHistory → NamedHistory → Type 0
 IsBareOf h b = (b.tables ≡ h.tables) × IsBare h.recording b.recording

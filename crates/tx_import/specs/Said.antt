@@ -3,8 +3,8 @@ use Rattle.std.specs.Prelude.{ℕ, ℤ, List, [], ◌∷◌, Option, Some, None,
 use Rattle.serde_json.specs.Data.{Data, Items, no_items, item}
 use Rattle.serde_json.specs.Find.{as_array, as_bool, as_i64, as_null, as_number, as_str, get}
 use Rattle.tx_check.specs.MachineSteps.{number_of, key_of, value_of, list_of}
-use Rattle.tx_recording.specs.declared.recording.Outcome.{Outcome}
-use Rattle.tx_recording.specs.declared.recording.Outcome.TheVariants.{Ok, Fail, Info}
+use Rattle.tx_recording.specs.declared.recording.RecordedOutcome.{RecordedOutcome}
+use Rattle.tx_recording.specs.declared.recording.RecordedOutcome.TheVariants.{Ok, Fail, Info}
 use Rattle.tx_import.specs.declared.name.Name.{Name}
 use Rattle.tx_import.specs.declared.name.Name.TheVariants.{Text, Number}
 use Rattle.tx_import.specs.declared.name.Scalar.{Scalar}
@@ -60,12 +60,12 @@ optional one None = Some None
 optional one (Some d) = if is_some (as_null d) then Some None else option_map Some (one d)
 
 -- what is known of a transaction's end: "ok", "fail" or "info"
-abbrev pub outcome_of : Data → Option Outcome
+abbrev pub outcome_of : Data → Option RecordedOutcome
 outcome_of d = option_and_then (λ w. if bytes_eq w (codes "ok") then Some Ok
     else (if bytes_eq w (codes "fail") then Some Fail
     else (if bytes_eq w (codes "info") then Some Info else None))) (as_str d)
 
-abbrev pub outcome_said : Data → Option Outcome
+abbrev pub outcome_said : Data → Option RecordedOutcome
 outcome_said d = option_and_then outcome_of (get (codes "type") d)
 
 abbrev pub ops_said : Data → Option (List SaidOp)

@@ -5,9 +5,9 @@ ghost use Rattle.tx_recording.specs.Recordings.{IsRecording, txns_of, transactio
 ghost use Rattle.tx_import.specs.Numbers.{AreInTurn};
 ghost use Rattle.tx_import.specs.Recorders.{IsUnread, IsBareOf, AreBare, AreMarked, emptied};
 
-use crate::reader::History;
+use crate::reader::NamedHistory;
 use std::alloc::{AllocError, Global};
-use tx_recording::{Act, Outcome, Recording, Transaction};
+use tx_recording::{Act, RecordedOutcome, RecordedTransaction, Recording};
 
 // The value that an act puts.
 fn put_by(act: Act) -> Option<u32>
@@ -70,9 +70,9 @@ fn is_unread(recording: &Recording, read: &[bool], txn: usize) -> bool
     ensures { IsTrue result → IsUnread recording.now txn }
 {
     match recording.transactions[txn].outcome {
-        Outcome::Ok => return false,
-        Outcome::Info => return false,
-        Outcome::Fail => {}
+        RecordedOutcome::Ok => return false,
+        RecordedOutcome::Info => return false,
+        RecordedOutcome::Fail => {}
     }
     let ops = recording.ops_of(txn);
     for i in 0..ops.len() {
@@ -84,10 +84,10 @@ fn is_unread(recording: &Recording, read: &[bool], txn: usize) -> bool
 }
 
 // A transaction without its operations.
-fn without_ops(transaction: Transaction) -> Transaction
+fn without_ops(transaction: RecordedTransaction) -> RecordedTransaction
     ensures { result ≡ emptied transaction }
 {
-    Transaction {
+    RecordedTransaction {
         id: transaction.id,
         outcome: transaction.outcome,
         process: transaction.process,
@@ -99,7 +99,7 @@ fn without_ops(transaction: Transaction) -> Transaction
 }
 
 // A transaction, without its operations if it failed and nobody read a value of it.
-fn bare_one(recording: &Recording, read: &[bool], txn: usize) -> Transaction
+fn bare_one(recording: &Recording, read: &[bool], txn: usize) -> RecordedTransaction
     requires recording { IsRecording recording.now }
     requires within { txn < txns_of recording.now }
     requires marked { AreMarked recording.now.elements.items read.now }
@@ -114,7 +114,11 @@ fn bare_one(recording: &Recording, read: &[bool], txn: usize) -> Transaction
 }
 
 // The transactions, some that failed without their operations.
-fn bare(alloc: Global, recording: &Recording, read: &[bool]) -> Result<Vec<Transaction>, AllocError>
+fn bare(
+    alloc: Global,
+    recording: &Recording,
+    read: &[bool],
+) -> Result<Vec<RecordedTransaction>, AllocError>
     requires recording { IsRecording recording.now }
     requires marked { AreMarked recording.now.elements.items read.now }
     ensures { IfOk result (λ ts. AreBare recording.now ts.items (txns_of recording.now)) }
@@ -130,7 +134,7 @@ fn bare(alloc: Global, recording: &Recording, read: &[bool]) -> Result<Vec<Trans
 /// value is put twice: who tries again may put it again.
 ///
 /// `AllocError` where there was no room.
-pub fn bare_of(alloc: Global, history: History) -> Result<History, AllocError>
+pub fn bare_of(alloc: Global, history: NamedHistory) -> Result<NamedHistory, AllocError>
     requires { IsRecording history.recording }
     ensures recording { IfOk result (λ bare. IsRecording bare.recording) }
     ensures bare { IfOk result (λ bare. IsBareOf history bare) }
@@ -142,8 +146,8 @@ pub fn bare_of(alloc: Global, history: History) -> Result<History, AllocError>
     }
     let read = read_values(alloc, &history.recording)?;
     let transactions = bare(alloc, &history.recording, read.as_slice())?;
-    let History { recording, tables } = history;
-    Ok(History {
+    let NamedHistory { recording, tables } = history;
+    Ok(NamedHistory {
         recording: Recording {
             transactions,
             ops: recording.ops,

@@ -7,7 +7,7 @@ use crate::line_content::{SaidAct, SaidOp, SaidTransaction};
 use crate::name::{Name, Scalar};
 use crate::names::{Names, Values};
 use std::alloc::{AllocError, Global};
-use tx_recording::{Act, Op, Span, Transaction};
+use tx_recording::{Act, RecordedOp, RecordedTransaction, Span};
 
 /// The numbers of keys, of their values, and of processes.
 #[derive(Drop)]
@@ -20,8 +20,8 @@ pub struct Tables {
 /// A recording, as far as its lines were read.
 #[derive(Drop)]
 pub(crate) struct Draft {
-    pub(crate) transactions: Vec<Transaction>,
-    pub(crate) ops: Vec<Op>,
+    pub(crate) transactions: Vec<RecordedTransaction>,
+    pub(crate) ops: Vec<RecordedOp>,
     pub(crate) elements: Vec<u32>,
     pub(crate) tables: Tables,
 }
@@ -159,7 +159,7 @@ impl Draft {
     {
         let key = self.tables.keys.number(&said.key)? as u32;
         let act = put_act(&mut self.tables.values, &mut self.elements, key, &said.act)?;
-        self.ops.push(Op { key, act })?;
+        self.ops.push(RecordedOp { key, act })?;
         Ok(())
     }
 
@@ -194,7 +194,7 @@ impl Draft {
         let first = self.ops.len() as u32;
         self.put_ops(said.ops.as_slice())?;
         let upto = self.ops.len() as u32;
-        self.transactions.push(Transaction {
+        self.transactions.push(RecordedTransaction {
             id: said.id,
             outcome: said.outcome,
             process,

@@ -16,5 +16,5 @@ pub use draft::Tables;
 pub use line_content::{SaidAct, SaidOp, SaidTransaction};
 pub use name::{Name, Scalar, Words};
 pub use names::{KeyedValue, Names, Values};
-pub use reader::{History, LineFault, read_history};
+pub use reader::{LineFault, NamedHistory, read_history};
 pub use recorder::{Misrecorded, find_misrecorded};

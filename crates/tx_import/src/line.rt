@@ -9,7 +9,7 @@ use crate::line_content::{SaidAct, SaidOp, SaidTransaction};
 use crate::name::{Name, Scalar, Words};
 use serde_json::Value as Json;
 use std::alloc::Global;
-use tx_recording::Outcome;
+use tx_recording::RecordedOutcome;
 use tx_types::{Fault, Items, Key};
 
 /// Why nothing was read.

@@ -3,7 +3,7 @@ ghost use Rattle.std.specs.Prelude.{◌≡◌};
 ghost use Rattle.tx_import.specs.Drafts.{width};
 
 use crate::name::{Name, Scalar};
-use tx_recording::Outcome;
+use tx_recording::RecordedOutcome;
 use tx_types::Items;
 
 /// What an operation did with its key.
@@ -41,7 +41,7 @@ pub struct SaidOp {
 pub struct SaidTransaction {
     /// The number of its line, where the line gives it none.
     pub id: u64,
-    pub outcome: Outcome,
+    pub outcome: RecordedOutcome,
     /// Who ran it.
     pub process: Option<Name>,
     /// When it began by the recorder's clock.

@@ -10,7 +10,7 @@ use crate::line_content::{SaidOp, SaidTransaction};
 use crate::name::Name;
 use serde_json::Value as Json;
 use std::alloc::Global;
-use tx_recording::Outcome;
+use tx_recording::RecordedOutcome;
 use tx_types::Items;
 
 // The member of this name.
@@ -54,17 +54,17 @@ fn name_at(alloc: Global, value: &Json, at: &str) -> Result<Option<Name>, Unread
     }
 }
 
-fn outcome(value: &Json) -> Result<Outcome, Unread>
+fn outcome(value: &Json) -> Result<RecordedOutcome, Unread>
     ensures { MatchResult result (λ outcome. outcome_said (view value.now) ≡ Some outcome)
         (λ _. outcome_said (view value.now) ≡ None) }
 {
     let word = text(member(value, "type")?)?;
     if word == "ok" {
-        Ok(Outcome::Ok)
+        Ok(RecordedOutcome::Ok)
     } else if word == "fail" {
-        Ok(Outcome::Fail)
+        Ok(RecordedOutcome::Fail)
     } else if word == "info" {
-        Ok(Outcome::Info)
+        Ok(RecordedOutcome::Info)
     } else {
         Err(Unread::Form)
     }

@@ -24,7 +24,7 @@ use tx_types::limits::{MAX_LINE_BYTES, MAX_LINES};
 
 /// A history that was read: its recording, and the names of what it numbers.
 #[derive(Drop)]
-pub struct History {
+pub struct NamedHistory {
     pub recording: Recording,
     pub tables: Tables,
 }
@@ -113,7 +113,7 @@ fn next<R: BufRead>(
 }
 
 // The history of a draft.
-fn history_of(draft: Draft) -> History
+fn history_of(draft: Draft) -> NamedHistory
     requires fits { FitsDraft draft }
     requires few { length draft.transactions.items < 2 ^ 30 }
     ensures recording { IsRecording result.recording }
@@ -130,7 +130,7 @@ fn history_of(draft: Draft) -> History
     let values = tables.values.len() as u32;
     // For proofs: no two processes have one name.
     let _ = tables.processes.len();
-    History {
+    NamedHistory {
         recording: Recording {
             transactions,
             ops,
@@ -148,7 +148,7 @@ fn history_of(draft: Draft) -> History
 pub fn read_history<R: BufRead>(
     alloc: Global,
     reader: &mut R,
-) -> Result<Result<History, LineFault>, Broken>
+) -> Result<Result<NamedHistory, LineFault>, Broken>
     // At any reader.
     ensures recording { IfOk result (λ found. IfOk found (λ history. IsRecording history.recording)) }
     ensures in_turn { IfOk result (λ found. IfOk found (λ history. AreInTurn history.recording.transactions.items)) }

@@ -6,9 +6,9 @@ ghost use Rattle.tx_recording.specs.declared.recording.Span.{Span as SpanOf};
 ghost use Rattle.tx_recording.specs.Recordings.{IsRecording, txns_of, transaction_at, ops_of};
 ghost use Rattle.tx_import.specs.Recorders.{IsMisrecorded, IsBackward, IsTimely, AppendsTo, WritesTo, ReadsList, IsListOf, IsUnread, IsBare, IsBareOf, emptied};
 
-use crate::reader::History;
+use crate::reader::NamedHistory;
 use std::alloc::{AllocError, Global};
-use tx_recording::{Act, Op, Outcome, Recording, Transaction};
+use tx_recording::{Act, RecordedOp, RecordedOutcome, RecordedTransaction, Recording};
 
 /// What a recorder got wrong, by numbers of keys and transactions.
 #[derive(Clone, Copy, Debug, PartialEq, Eq)]
@@ -107,7 +107,7 @@ fn same_id(alloc: Global, recording: &Recording) -> Result<Option<Misrecorded>, 
 }
 
 // Whether an operation says that the key holds a list.
-fn is_of_list(op: Op, key: u32) -> bool
+fn is_of_list(op: RecordedOp, key: u32) -> bool
     ensures { IsTrue result → (op.key ≡ key) × (((v : ℕ) × (op.act ≡ Appended v))
         ⊎ ((span : SpanOf) × (op.act ≡ Saw span) × (2 ≤ span.count))) }
 {
@@ -122,7 +122,7 @@ fn is_of_list(op: Op, key: u32) -> bool
 }
 
 // Whether an operation writes the key as a register.
-fn is_write(op: Op, key: u32) -> bool
+fn is_write(op: RecordedOp, key: u32) -> bool
     ensures { IsTrue result → (op.key ≡ key) × ((v : ℕ) × (op.act ≡ Written v)) }
 {
     if op.key != key {
@@ -187,7 +187,7 @@ fn note(table: &mut Vec<Option<u32>>, key: u32, txn: u32) {
 
 impl Kinds {
     // Notes what the operations of a transaction say.
-    fn note_ops(&mut self, ops: &[Op], txn: u32) {
+    fn note_ops(&mut self, ops: &[RecordedOp], txn: u32) {
         for i in 0..ops.len() {
             let op = ops[i];
             if is_of_list(op, op.key) {

@@ -9,24 +9,25 @@ ghost use Rattle.tx_history.specs.Graph.{IsCycleOf};
 ghost use Rattle.tx_verdict.specs.Verdicts.{IsVerdict};
 
 use std::alloc::{AllocError, Global};
-use tx_chains::{Asked, Parts, number, plan_of, versions_of};
-use tx_history::{After, Decision, decide};
+use tx_chains::{Asked, ChainParts, number, plan_of, versions_of};
+use tx_history::{After, HistoryDecision, decide};
 use tx_recording::Recording;
 use tx_verdict::{
-    Level, Lives, Question, Refutation, Verdict, Versions, cycle_of, is_refutation, timestamps,
+    HistoryVerdict, Level, Lives, Question, Refutation, Versions, cycle_of, is_refutation,
+    timestamps,
 };
-use tx_views::{Owner, View};
+use tx_views::{Owner, RecordedView};
 
 // What timestamps of versions are for the recording.
 fn yes_of(
     alloc: Global,
     recording: &Recording,
-    views: &[View],
+    views: &[RecordedView],
     question: Question,
     versions: Versions,
     starts: Vec<usize>,
     commits: Vec<usize>,
-) -> Result<Option<Verdict>, AllocError>
+) -> Result<Option<HistoryVerdict>, AllocError>
     requires recording { IsRecording recording.now }
     requires views { AreViews recording.now views.now }
     requires history { IsRecorded versions.recorded }
@@ -35,7 +36,7 @@ fn yes_of(
     ensures { IfOk result (λ found. IfSome found (IsVerdict recording.now question)) }
 {
     match timestamps(alloc, recording, views, question, versions, starts, commits)? {
-        Some(found) => Ok(Some(Verdict::Yes(found))),
+        Some(found) => Ok(Some(HistoryVerdict::Yes(found))),
         None => Ok(None),
     }
 }
@@ -61,11 +62,11 @@ fn add_turns(alloc: Global, versions: &mut Versions, starts: &[usize]) -> Result
 fn yes_in_turn(
     alloc: Global,
     recording: &Recording,
-    views: &[View],
+    views: &[RecordedView],
     question: Question,
     mut versions: Versions,
     starts: Vec<usize>,
-) -> Result<Option<Verdict>, AllocError>
+) -> Result<Option<HistoryVerdict>, AllocError>
     requires recording { IsRecording recording.now }
     requires views { AreViews recording.now views.now }
     ensures { IfOk result (λ found. IfSome found (IsVerdict recording.now question)) }
@@ -75,10 +76,10 @@ fn yes_in_turn(
         return Ok(None);
     }
     match decide(alloc, &versions.recorded)? {
-        Decision::Yes(starts, commits) => {
+        HistoryDecision::Yes(starts, commits) => {
             yes_of(alloc, recording, views, question, versions, starts, commits)
         }
-        Decision::No(_) => Ok(None),
+        HistoryDecision::No(_) => Ok(None),
     }
 }
 
@@ -86,12 +87,12 @@ fn yes_in_turn(
 fn yes_at(
     alloc: Global,
     recording: &Recording,
-    views: &[View],
+    views: &[RecordedView],
     question: Question,
     versions: Versions,
     starts: Vec<usize>,
     commits: Vec<usize>,
-) -> Result<Option<Verdict>, AllocError>
+) -> Result<Option<HistoryVerdict>, AllocError>
     requires recording { IsRecording recording.now }
     requires views { AreViews recording.now views.now }
     requires history { IsRecorded versions.recorded }
@@ -110,11 +111,11 @@ fn no_of(
     alloc: Global,
     recording: &Recording,
     owners: &[Option<Owner>],
-    views: &[View],
+    views: &[RecordedView],
     question: Question,
     versions: &Versions,
     nodes: &[u32],
-) -> Result<Option<Verdict>, AllocError>
+) -> Result<Option<HistoryVerdict>, AllocError>
     requires recording { IsRecording recording.now }
     requires owners { AreOwners recording.now owners.now }
     requires views { AreViews recording.now views.now }
@@ -123,7 +124,7 @@ fn no_of(
     ensures { IfOk result (λ found. IfSome found (IsVerdict recording.now question)) }
 {
     match cycle_of(alloc, recording, owners, views, question, versions, nodes)? {
-        Some(cycle) => Ok(Some(Verdict::No(cycle))),
+        Some(cycle) => Ok(Some(HistoryVerdict::No(cycle))),
         None => Ok(None),
     }
 }
@@ -133,11 +134,11 @@ pub(crate) fn refuted_by(
     alloc: Global,
     recording: &Recording,
     owners: &[Option<Owner>],
-    views: &[View],
+    views: &[RecordedView],
     question: Question,
     versions: &Versions,
     refutation: Refutation,
-) -> Result<Option<Verdict>, AllocError>
+) -> Result<Option<HistoryVerdict>, AllocError>
     requires recording { IsRecording recording.now }
     requires owners { AreOwners recording.now owners.now }
     requires views { AreViews recording.now views.now }
@@ -157,7 +158,7 @@ pub(crate) fn refuted_by(
     )? {
         return Ok(None);
     }
-    Ok(Some(Verdict::Refuted(refutation)))
+    Ok(Some(HistoryVerdict::Refuted(refutation)))
 }
 
 /// What the versions in one order are for the recording, if that is known.
@@ -165,10 +166,10 @@ pub(crate) fn try_versions(
     alloc: Global,
     recording: &Recording,
     owners: &[Option<Owner>],
-    views: &[View],
+    views: &[RecordedView],
     question: Question,
     versions: Versions,
-) -> Result<Option<Verdict>, AllocError>
+) -> Result<Option<HistoryVerdict>, AllocError>
     requires recording { IsRecording recording.now }
     requires owners { AreOwners recording.now owners.now }
     requires views { AreViews recording.now views.now }
@@ -178,10 +179,10 @@ pub(crate) fn try_versions(
         return Ok(None);
     }
     match decide(alloc, &versions.recorded)? {
-        Decision::Yes(starts, commits) => {
+        HistoryDecision::Yes(starts, commits) => {
             yes_at(alloc, recording, views, question, versions, starts, commits)
         }
-        Decision::No(nodes) => {
+        HistoryDecision::No(nodes) => {
             let nodes = nodes.as_slice();
             no_of(alloc, recording, owners, views, question, &versions, nodes)
         }
@@ -194,13 +195,13 @@ pub(crate) fn verdict_in(
     alloc: Global,
     recording: &Recording,
     owners: &[Option<Owner>],
-    views: &[View],
+    views: &[RecordedView],
     question: Question,
     lives: &Lives,
-    parts: &Parts,
+    parts: &ChainParts,
     order: &[u32],
     asked: Asked,
-) -> Result<Option<Verdict>, AllocError>
+) -> Result<Option<HistoryVerdict>, AllocError>
     requires recording { IsRecording recording.now }
     requires owners { AreOwners recording.now owners.now }
     requires views { AreViews recording.now views.now }

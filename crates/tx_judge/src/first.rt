@@ -4,7 +4,7 @@ use crate::greedy::order_of;
 use crate::overlap::{add_apart, puts_by_txn};
 use crate::wide_graph::{are_within, wide_edges};
 use std::alloc::{AllocError, Global};
-use tx_chains::{Extras, Plan, Put, first_member, first_put, last_put, number, put_at};
+use tx_chains::{ChainPlan, Extras, Put, first_member, first_put, last_put, number, put_at};
 use tx_order::{Edge, Unordered, order};
 use tx_verdict::Versions;
 
@@ -89,7 +89,7 @@ fn leads_to(leads: &Leads, last: Option<Put>, put: Put) -> bool {
 // By key, the put that a cycle leads to, of those that nobody knows the place of.
 fn first_by(
     alloc: Global,
-    plan: &Plan,
+    plan: &ChainPlan,
     puts: &[Put],
     keys: u32,
     leads: &Leads,
@@ -134,7 +134,7 @@ fn every_other(
 pub(crate) fn hint_of(
     alloc: Global,
     versions: &Versions,
-    plan: &Plan,
+    plan: &ChainPlan,
     puts: &[Put],
     extras: &Extras,
     keys: u32,

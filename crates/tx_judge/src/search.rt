@@ -10,10 +10,10 @@ use crate::consequences::{Follows, follows_from};
 use crate::first::{Hint, hint_of};
 use crate::open_keys::open_keys;
 use std::alloc::{AllocError, Global};
-use tx_chains::{Asked, Extras, Parts, Put, number, plan_of, versions_of};
+use tx_chains::{Asked, ChainParts, Extras, Put, number, plan_of, versions_of};
 use tx_recording::Recording;
-use tx_verdict::{Level, Lives, Question, Verdict};
-use tx_views::{Owner, View};
+use tx_verdict::{HistoryVerdict, Level, Lives, Question};
+use tx_views::{Owner, RecordedView};
 
 // The puts in their own order.
 fn in_turn(alloc: Global, count: usize) -> Result<Vec<u32>, AllocError> {
@@ -40,12 +40,12 @@ fn verdict_by(
     alloc: Global,
     recording: &Recording,
     owners: &[Option<Owner>],
-    views: &[View],
+    views: &[RecordedView],
     question: Question,
     lives: &Lives,
-    parts: &Parts,
+    parts: &ChainParts,
     numbers: &[usize],
-) -> Result<Option<Verdict>, AllocError>
+) -> Result<Option<HistoryVerdict>, AllocError>
     requires recording { IsRecording recording.now }
     requires owners { AreOwners recording.now owners.now }
     requires views { AreViews recording.now views.now }
@@ -73,12 +73,12 @@ fn verdict_found(
     alloc: Global,
     recording: &Recording,
     owners: &[Option<Owner>],
-    views: &[View],
+    views: &[RecordedView],
     question: Question,
     lives: &Lives,
-    parts: &Parts,
+    parts: &ChainParts,
     guesses: &[Vec<usize>],
-) -> Result<Option<Verdict>, AllocError>
+) -> Result<Option<HistoryVerdict>, AllocError>
     requires recording { IsRecording recording.now }
     requires owners { AreOwners recording.now owners.now }
     requires views { AreViews recording.now views.now }
@@ -106,12 +106,12 @@ fn verdict_by_hint(
     alloc: Global,
     recording: &Recording,
     owners: &[Option<Owner>],
-    views: &[View],
+    views: &[RecordedView],
     question: Question,
     lives: &Lives,
-    parts: &Parts,
+    parts: &ChainParts,
     hint: Hint,
-) -> Result<Option<Verdict>, AllocError>
+) -> Result<Option<HistoryVerdict>, AllocError>
     requires recording { IsRecording recording.now }
     requires owners { AreOwners recording.now owners.now }
     requires views { AreViews recording.now views.now }
@@ -157,13 +157,13 @@ fn verdict_by_found(
     alloc: Global,
     recording: &Recording,
     owners: &[Option<Owner>],
-    views: &[View],
+    views: &[RecordedView],
     question: Question,
     lives: &Lives,
-    parts: &Parts,
+    parts: &ChainParts,
     told: Question,
     budget: u32,
-) -> Result<Option<Verdict>, AllocError>
+) -> Result<Option<HistoryVerdict>, AllocError>
     requires recording { IsRecording recording.now }
     requires owners { AreOwners recording.now owners.now }
     requires views { AreViews recording.now views.now }
@@ -201,12 +201,12 @@ fn verdict_by_orders(
     alloc: Global,
     recording: &Recording,
     owners: &[Option<Owner>],
-    views: &[View],
+    views: &[RecordedView],
     question: Question,
     lives: &Lives,
-    parts: &Parts,
+    parts: &ChainParts,
     budget: u32,
-) -> Result<Option<Verdict>, AllocError>
+) -> Result<Option<HistoryVerdict>, AllocError>
     requires recording { IsRecording recording.now }
     requires owners { AreOwners recording.now owners.now }
     requires views { AreViews recording.now views.now }
@@ -231,15 +231,15 @@ fn undecided(
     puts: &[Put],
     extras: &Extras,
     question: Question,
-) -> Result<Verdict, AllocError>
+) -> Result<HistoryVerdict, AllocError>
     requires recording { IsRecording recording.now }
     ensures { IfOk result (IsVerdict recording.now question) }
 {
     let keys = open_keys(alloc, recording, puts, extras)?;
     if keys.is_empty() {
-        return Ok(Verdict::Unknown);
+        return Ok(HistoryVerdict::Unknown);
     }
-    Ok(Verdict::Open(keys))
+    Ok(HistoryVerdict::Open(keys))
 }
 
 // What the recording is, if it is decided by what is known of the order of its puts, else by orders
@@ -248,13 +248,13 @@ fn verdict_sought(
     alloc: Global,
     recording: &Recording,
     owners: &[Option<Owner>],
-    views: &[View],
+    views: &[RecordedView],
     question: Question,
     lives: &Lives,
-    parts: &Parts,
+    parts: &ChainParts,
     hint: Hint,
     budget: u32,
-) -> Result<Option<Verdict>, AllocError>
+) -> Result<Option<HistoryVerdict>, AllocError>
     requires recording { IsRecording recording.now }
     requires owners { AreOwners recording.now owners.now }
     requires views { AreViews recording.now views.now }
@@ -276,12 +276,12 @@ pub(crate) fn judge_parts(
     alloc: Global,
     recording: &Recording,
     owners: &[Option<Owner>],
-    views: &[View],
+    views: &[RecordedView],
     question: Question,
     lives: &Lives,
-    parts: &Parts,
+    parts: &ChainParts,
     budget: u32,
-) -> Result<Verdict, AllocError>
+) -> Result<HistoryVerdict, AllocError>
     requires recording { IsRecording recording.now }
     requires owners { AreOwners recording.now owners.now }
     requires views { AreViews recording.now views.now }

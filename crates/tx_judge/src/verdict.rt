@@ -8,18 +8,18 @@ ghost use Rattle.tx_verdict.specs.Verdicts.{IsVerdict, IsWrong};
 
 use crate::search::judge_parts;
 use std::alloc::{AllocError, Global};
-use tx_chains::{Parts, follows_of, lives_of, number, put_at, puts_of};
+use tx_chains::{ChainParts, follows_of, lives_of, number, put_at, puts_of};
 use tx_recording::Recording;
 use tx_verdict::{
-    Fact, Question, Verdict, are_lists, internal, wrong_lists, wrong_update, wrong_views,
+    Fact, HistoryVerdict, Question, are_lists, internal, wrong_lists, wrong_update, wrong_views,
 };
-use tx_views::{Owned, Owner, View, Viewed, owners, views};
+use tx_views::{Owned, Owner, RecordedView, Viewed, owners, views};
 
 // By key, the view with most values, where keys hold lists.
 fn longest_of(
     alloc: Global,
     recording: &Recording,
-    views: &[View],
+    views: &[RecordedView],
     lists: bool,
 ) -> Result<Vec<Option<u32>>, AllocError> {
     let mut longest = vec![in alloc; None; recording.keys as usize]?;
@@ -36,7 +36,7 @@ fn longest_of(
 }
 
 // How many values the view has that a table has of a key.
-fn count_at(longest: &[Option<u32>], views: &[View], key: usize) -> u32 {
+fn count_at(longest: &[Option<u32>], views: &[RecordedView], key: usize) -> u32 {
     let Some(Some(place)) = longest.get(key) else {
         return 0;
     };
@@ -51,7 +51,7 @@ fn wrong_lists_if(
     alloc: Global,
     recording: &Recording,
     owners: &[Option<Owner>],
-    views: &[View],
+    views: &[RecordedView],
     longest: &[Option<u32>],
     lists: bool,
 ) -> Result<Option<Fact>, AllocError>
@@ -72,33 +72,33 @@ fn judge_views(
     alloc: Global,
     recording: &Recording,
     owners: &[Option<Owner>],
-    views: &[View],
+    views: &[RecordedView],
     question: Question,
     budget: u32,
-) -> Result<Verdict, AllocError>
+) -> Result<HistoryVerdict, AllocError>
     requires recording { IsRecording recording.now }
     requires owners { AreOwners recording.now owners.now }
     requires views { AreViews recording.now views.now }
     ensures { IfOk result (IsVerdict recording.now question) }
 {
     if let Some(fact) = wrong_views(alloc, recording, owners, views)? {
-        return Ok(Verdict::Fact(fact));
+        return Ok(HistoryVerdict::Fact(fact));
     }
     let lists = are_lists(recording);
     let longest = longest_of(alloc, recording, views, lists)?;
     let table = longest.as_slice();
     if let Some(fact) = wrong_lists_if(alloc, recording, owners, views, table, lists)? {
-        return Ok(Verdict::Fact(fact));
+        return Ok(HistoryVerdict::Fact(fact));
     }
     let lives = lives_of(alloc, recording, owners, views)?;
     let puts = puts_of(alloc, recording, views, lives.live.as_slice())?;
     let follows = follows_of(alloc, recording, views, puts.all.as_slice())?;
     if let Some(lost) = follows.lost {
         if let Some(fact) = wrong_update(recording, owners, views, lost) {
-            return Ok(Verdict::Fact(fact));
+            return Ok(HistoryVerdict::Fact(fact));
         }
     }
-    let parts = Parts {
+    let parts = ChainParts {
         puts,
         follows,
         longest,
@@ -116,7 +116,7 @@ fn judge_viewed(
     viewed: Viewed,
     question: Question,
     budget: u32,
-) -> Result<Verdict, AllocError>
+) -> Result<HistoryVerdict, AllocError>
     requires recording { IsRecording recording.now }
     requires owners { AreOwners recording.now owners.now }
     requires viewed { IsViewed recording.now viewed }
@@ -126,7 +126,7 @@ fn judge_viewed(
         Viewed::Views(views) => {
             judge_views(alloc, recording, owners, views.as_slice(), question, budget)
         }
-        Viewed::Internal(txn, place) => Ok(Verdict::Fact(internal(recording, txn, place))),
+        Viewed::Internal(txn, place) => Ok(HistoryVerdict::Fact(internal(recording, txn, place))),
     }
 }
 
@@ -137,7 +137,7 @@ fn judge_owned(
     owned: Owned,
     question: Question,
     budget: u32,
-) -> Result<Verdict, AllocError>
+) -> Result<HistoryVerdict, AllocError>
     requires recording { IsRecording recording.now }
     requires owned { IsOwned recording.now owned }
     ensures { IfOk result (IsVerdict recording.now question) }
@@ -148,7 +148,7 @@ fn judge_owned(
             judge_viewed(alloc, recording, table.as_slice(), viewed, question, budget)
         }
         Owned::Twice(twice) => {
-            Ok(Verdict::Twice(twice.first.txn, twice.second.txn, twice.value))
+            Ok(HistoryVerdict::Twice(twice.first.txn, twice.second.txn, twice.value))
         }
     }
 }
@@ -164,7 +164,7 @@ pub fn judge(
     recording: &Recording,
     question: Question,
     budget: u32,
-) -> Result<Verdict, AllocError>
+) -> Result<HistoryVerdict, AllocError>
     requires { IsRecording recording.now }
     ensures { IfOk result (IsVerdict recording.now question) }
 {

@@ -5,7 +5,7 @@ ghost use Rattle.tx_order.specs.Graphs.{AreWithin};
 ghost use Rattle.tx_history.specs.Records.{IsRecorded};
 
 use std::alloc::{AllocError, Global};
-use tx_chains::{Extras, Plan, Put, first_put, last_put, number};
+use tx_chains::{ChainPlan, Extras, Put, first_put, last_put, number};
 use tx_history::{Read, Recorded, edges};
 use tx_order::Edge;
 
@@ -43,7 +43,7 @@ fn add_behind(
 fn add_chains(
     edges: &mut Vec<Edge>,
     txns: u32,
-    plan: &Plan,
+    plan: &ChainPlan,
     puts: &[Put],
     extras: &Extras,
     keys: u32,
@@ -94,7 +94,7 @@ fn add_readers(
 pub(crate) fn wide_edges(
     alloc: Global,
     recorded: &Recorded,
-    plan: &Plan,
+    plan: &ChainPlan,
     puts: &[Put],
     extras: &Extras,
     keys: u32,

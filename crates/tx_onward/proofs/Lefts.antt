@@ -6,10 +6,10 @@ use Rattle.std.proofs.lemmas.List.{get_or_append_left, get_or_push, length_push,
 use Rattle.std.proofs.lemmas.List.Elements.{All-from_get_or, All-weaker, All-append, All-take, All-drop, All-filter, All-nil}
 use Rattle.std.proofs.lemmas.List.Sums.{length-filter, count_by-le-length}
 use Rattle.std.proofs.Math.Seq.{drop-append_seam, take-length}
-use Rattle.tx_recording.specs.declared.recording.Transaction.{Transaction}
+use Rattle.tx_recording.specs.declared.recording.RecordedTransaction.{RecordedTransaction}
 use Rattle.tx_recording.specs.declared.recording.Act.{Act}
 use Rattle.tx_recording.specs.declared.recording.Act.TheVariants.{Append, Write, Read}
-use Rattle.tx_recording.specs.declared.recording.Op.{Op}
+use Rattle.tx_recording.specs.declared.recording.RecordedOp.{RecordedOp}
 use Rattle.tx_recording.specs.declared.recording.Recording.{Recording}
 use Rattle.tx_recording.specs.Recordings.{IsRecording, IsTransactionOf, IsActOf, IsOpOf, no_transaction, transaction_at, txns_of, ops_of}
 use Rattle.tx_onward.specs.Left.{is_put, without, moved, IsLeft}
@@ -17,32 +17,32 @@ use Rattle.tx_onward.specs.Left.{is_put, without, moved, IsLeft}
 -- ---- operations without reads
 
 -- they are no more
-pub length_without : (b : Bool) (os : List Op) → length (without b os) ≤ length os
+pub length_without : (b : Bool) (os : List RecordedOp) → length (without b os) ≤ length os
 length_without true os =
-    let same = length-filter (λ (o : Op). is_put o.act) os in
-    let few = count_by-le-length (λ (o : Op). is_put o.act) os in omega (arith, same, few)
+    let same = length-filter (λ (o : RecordedOp). is_put o.act) os in
+    let few = count_by-le-length (λ (o : RecordedOp). is_put o.act) os in omega (arith, same, few)
 length_without false os = omega arith
 
 -- what holds of each of them still does
-without_all : (P : Op → Type 0) (b : Bool) (os : List Op) → All P os → All P (without b os)
-without_all P true os h = All-filter (λ (o : Op). is_put o.act) P os h
+without_all : (P : RecordedOp → Type 0) (b : Bool) (os : List RecordedOp) → All P os → All P (without b os)
+without_all P true os h = All-filter (λ (o : RecordedOp). is_put o.act) P os h
 without_all P false os h = h
 
 -- ---- parts of lists
 
-length_range : (os : List Op) (a b : ℕ) → a ≤ b → b ≤ length os → length (slice_range os a b) ≤ b - a
+length_range : (os : List RecordedOp) (a b : ℕ) → a ≤ b → b ≤ length os → length (slice_range os a b) ≤ b - a
 length_range os a b le within = omega (arith, length_take (b - a) (drop a os))
   where
-    length_take : (n : ℕ) (xs : List Op) → length (take n xs) ≤ n
+    length_take : (n : ℕ) (xs : List RecordedOp) → length (take n xs) ≤ n
     length_take zero xs = omega arith
     length_take (suc n) [] = omega arith
     length_take (suc n) (x ∷ xs) = let rest = length_take n xs in omega (arith, rest)
 
-range_all : (P : Op → Type 0) (os : List Op) (a b : ℕ) → All P os → All P (slice_range os a b)
+range_all : (P : RecordedOp → Type 0) (os : List RecordedOp) (a b : ℕ) → All P os → All P (slice_range os a b)
 range_all P os a b h = All-take P (b - a) (drop a os) (All-drop P a os h)
 
 -- a part stays as it is
-range_stays : (os more : List Op) (a b : ℕ) → a ≤ b → b ≤ length os
+range_stays : (os more : List RecordedOp) (a b : ℕ) → a ≤ b → b ≤ length os
     → slice_range (os ++ more) a b ≡ slice_range os a b
 range_stays os more a b le within =
     let first : a ≤ length os = omega (arith, le, within) in
@@ -51,7 +51,7 @@ range_stays os more a b le within =
     ap (take (b - a)) (drop-append-le a os more first) ∙ take-append-le (b - a) (drop a os) more short
 
 -- the part that was added
-range_added : (os more : List Op) → slice_range (os ++ more) (length os) (length (os ++ more)) ≡ more
+range_added : (os more : List RecordedOp) → slice_range (os ++ more) (length os) (length (os ++ more)) ≡ more
 range_added os more =
     let count = length-append os more in
     let n : length (os ++ more) - length os ≡ length more = omega (arith, count) in
@@ -73,7 +73,8 @@ few_left r b t is lt =
 
 -- they are the same, but that their operations stand elsewhere, without the reads of those that
 -- were told of; and there is room for those of the next one
-pub record IsLeftTo (r : Recording) (told : List Bool) (ts : List Transaction) (os : List Op) (n : ℕ) : Type 0 where
+pub record IsLeftTo (r : Recording) (told : List Bool) (ts : List RecordedTransaction) (os : List RecordedOp)
+    (n : ℕ) : Type 0 where
   pub count : length ts ≡ n
   pub same : (t : ℕ) → t < n → get_or ts t no_transaction
       ≡ moved (transaction_at r t) (get_or ts t no_transaction).first (get_or ts t no_transaction).upto
@@ -104,10 +105,11 @@ below_more P n old new i lt = elim (cases_lt i n) [
       let same : n ≡ i = omega (arith, le, lt) in subst P same new
 ]
 
-module _ (r : Recording) (told : List Bool) (ts : List Transaction) (os : List Op) (n : ℕ) (more : List Op)
-    (is : IsRecording r) (in_turn : AllPairs (λ (t u : Transaction). t.upto ≤ u.first) r.transactions.items)
+module _ (r : Recording) (told : List Bool) (ts : List RecordedTransaction) (os : List RecordedOp) (n : ℕ)
+    (more : List RecordedOp)
+    (is : IsRecording r) (in_turn : AllPairs (λ (t u : RecordedTransaction). t.upto ≤ u.first) r.transactions.items)
     (lt : n < txns_of r) (l : IsLeftTo r told ts os n) (added : more ≡ without (get_or told n false) (ops_of r n)) where
-  abbrev pub one : Transaction
+  abbrev pub one : RecordedTransaction
   one = moved (transaction_at r n) (length os) (length (os ++ more))
 
   -- one of those before stands where it stood
@@ -121,10 +123,10 @@ module _ (r : Recording) (told : List Bool) (ts : List Transaction) (os : List O
   longer : length os ≤ length (os ++ more)
   longer = let count = length-append os more in omega (arith, count)
 
-  abbrev IsKept : Transaction → ℕ → Type 0
+  abbrev IsKept : RecordedTransaction → ℕ → Type 0
   IsKept q t = slice_range (os ++ more) q.first q.upto ≡ without (get_or told t false) (ops_of r t)
 
-  abbrev IsSame : Transaction → ℕ → Type 0
+  abbrev IsSame : RecordedTransaction → ℕ → Type 0
   IsSame q t = q ≡ moved (transaction_at r t) q.first q.upto
 
   more_same : (t : ℕ) → t < n + 1 → IsSame (get_or (ts ++ one ∷ []) t no_transaction) t

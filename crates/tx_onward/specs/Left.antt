@@ -3,8 +3,8 @@ use Rattle.std.specs.Prelude.{◌≡◌, ℕ, ◌<◌, Bool, true, false, cond, 
 use Rattle.std.specs.List.{filter}
 use Rattle.tx_recording.specs.declared.recording.Act.{Act}
 use Rattle.tx_recording.specs.declared.recording.Act.TheVariants.{Append, Write, Read}
-use Rattle.tx_recording.specs.declared.recording.Op.{Op}
-use Rattle.tx_recording.specs.declared.recording.Transaction.{Transaction}
+use Rattle.tx_recording.specs.declared.recording.RecordedOp.{RecordedOp}
+use Rattle.tx_recording.specs.declared.recording.RecordedTransaction.{RecordedTransaction}
 use Rattle.tx_recording.specs.declared.recording.Recording.{Recording}
 use Rattle.tx_recording.specs.Recordings.{txns_of, transaction_at, ops_of}
 
@@ -15,11 +15,11 @@ is_put (Write v) = true
 is_put (Read span) = false
 
 -- the operations, where it was told of without its reads
-abbrev pub without : Bool → List Op → List Op
+abbrev pub without : Bool → List RecordedOp → List RecordedOp
 without is_told os = cond is_told (filter (λ o. is_put o.act) os) os
 
 -- the same transaction, but that its operations stand elsewhere
-abbrev pub moved : Transaction → ℕ → ℕ → Transaction
+abbrev pub moved : RecordedTransaction → ℕ → ℕ → RecordedTransaction
 moved t first upto = record {
   id = t.id;
   outcome = t.outcome;

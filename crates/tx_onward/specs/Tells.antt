@@ -7,23 +7,23 @@ use Rattle.std.specs.List.{find, list_any}
 use Rattle.std.specs.Option.{is_some}
 use Rattle.tx_verdict.specs.declared.anomaly.Anomaly.{Anomaly}
 use Rattle.tx_verdict.specs.declared.anomaly.Anomaly.TheVariants.{G0}
-use Rattle.tx_recording.specs.declared.recording.Outcome.{Outcome}
-use Rattle.tx_recording.specs.declared.recording.Outcome.TheVariants.{Ok, Fail, Info}
+use Rattle.tx_recording.specs.declared.recording.RecordedOutcome.{RecordedOutcome}
+use Rattle.tx_recording.specs.declared.recording.RecordedOutcome.TheVariants.{Ok, Fail, Info}
 use Rattle.tx_recording.specs.declared.recording.Act.{Act}
 use Rattle.tx_recording.specs.declared.recording.Act.TheVariants.{Append, Write, Read}
-use Rattle.tx_recording.specs.declared.recording.Op.{Op}
+use Rattle.tx_recording.specs.declared.recording.RecordedOp.{RecordedOp}
 use Rattle.tx_recording.specs.declared.recording.Recording.{Recording}
 use Rattle.tx_recording.specs.Recordings.{transaction_at, ops_of, list_of}
 use Rattle.tx_verdict.specs.declared.verdict.Cycle.{Cycle}
 use Rattle.tx_verdict.specs.declared.verdict.CycleStep.{CycleStep}
-use Rattle.tx_verdict.specs.declared.verdict.Verdict.{Verdict}
-use Rattle.tx_verdict.specs.declared.verdict.Verdict.TheVariants.{No, Refuted, Fact as Found}
+use Rattle.tx_verdict.specs.declared.verdict.HistoryVerdict.{HistoryVerdict}
+use Rattle.tx_verdict.specs.declared.verdict.HistoryVerdict.TheVariants.{No, Refuted, Fact as Found}
 use Rattle.tx_verdict.specs.declared.refutation.Settled.{Settled}
 use Rattle.tx_verdict.specs.declared.refutation.Lemma.{Lemma}
 use Rattle.tx_verdict.specs.declared.refutation.Refutation.{Refutation}
 
 -- it is known to have committed
-abbrev pub is_ok : Outcome → Bool
+abbrev pub is_ok : RecordedOutcome → Bool
 is_ok Ok = true
 is_ok Fail = false
 is_ok Info = false
@@ -35,11 +35,11 @@ is_value v (Write w) = w == v
 is_value v (Read span) = false
 
 -- one of the operations puts the value
-abbrev pub puts_value : List Op → ℕ → Bool
+abbrev pub puts_value : List RecordedOp → ℕ → Bool
 puts_value os v = list_any (λ o. is_value v o.act) os
 
 -- one of the operations puts one of the values
-abbrev pub sees_one : List Op → List ℕ → Bool
+abbrev pub sees_one : List RecordedOp → List ℕ → Bool
 sees_one os vs = list_any (puts_value os) vs
 
 -- the values that an act read
@@ -49,7 +49,7 @@ read_by r (Write v) = []
 read_by r (Read span) = cond (nat_le (span.first + span.count) (length r.elements.items)) (list_of r span) []
 
 -- the operation read in the key what one of these operations put
-abbrev pub sees_in : Recording → ℕ → List Op → Op → Bool
+abbrev pub sees_in : Recording → ℕ → List RecordedOp → RecordedOp → Bool
 sees_in r k os o = (o.key == k) && sees_one os (read_by r o.act)
 
 -- t read in the key, if there is one, what u put there
@@ -92,17 +92,17 @@ abbrev pub is_named : Recording → Cycle → ℕ → Bool
 is_named r c t = is_on c.steps.items t || (is_dirty c.anomaly && sees_one_of r (first_keyed c.steps.items) t)
 
 -- what is told is told of t
-abbrev pub is_of : Recording → Verdict → ℕ → Bool
+abbrev pub is_of : Recording → HistoryVerdict → ℕ → Bool
 is_of r (No c) t = is_named r c t
 is_of r (Refuted x) t = is_on_one x t
 is_of r (Found f) t = f.txn == t
 is_of r _ t = false
 
 -- the verdict tells of t, which is known to have committed
-abbrev pub tells : Recording → Verdict → ℕ → Bool
+abbrev pub tells : Recording → HistoryVerdict → ℕ → Bool
 tells r v t = is_ok (transaction_at r t).outcome && is_of r v t
 
 -- one of the verdicts does
-abbrev pub told_by : Recording → List Verdict → ℕ → Bool
+abbrev pub told_by : Recording → List HistoryVerdict → ℕ → Bool
 told_by r [] t = false
 told_by r (v ∷ vs) t = told_by r vs t || tells r v t

@@ -6,10 +6,10 @@ ghost use Rattle.tx_onward.specs.Untold.{untold};
 
 use crate::tells::tells;
 use tx_recording::Recording;
-use tx_verdict::Verdict;
+use tx_verdict::HistoryVerdict;
 
 // Notes whether a verdict tells of a transaction that was not told of.
-fn note_one(told: &mut [bool], recording: &Recording, verdict: &Verdict, t: usize) -> bool
+fn note_one(told: &mut [bool], recording: &Recording, verdict: &HistoryVerdict, t: usize) -> bool
     requires recording { IsRecording recording.now }
     requires within { t < length told.old }
     requires few { t < 2 ^ 32 }
@@ -34,7 +34,7 @@ fn either(one: bool, other: bool) -> bool
 }
 
 /// Notes of which transactions a verdict tells. Whether one of them was not told of before.
-pub fn note(told: &mut [bool], recording: &Recording, verdict: &Verdict) -> bool
+pub fn note(told: &mut [bool], recording: &Recording, verdict: &HistoryVerdict) -> bool
     requires recording { IsRecording recording.now }
     requires count { length told.old ≡ txns_of recording.now }
     ensures count { length told.new ≡ length told.old }

@@ -5,7 +5,7 @@ ghost use Rattle.tx_recording.specs.Recordings.{IsRecording, txns_of, transactio
 ghost use Rattle.tx_onward.specs.Left.{is_put, without, moved, IsLeft};
 
 use std::alloc::{AllocError, Global};
-use tx_recording::{Act, Op, Recording, Transaction};
+use tx_recording::{Act, RecordedOp, RecordedTransaction, Recording};
 
 // Whether a transaction was told of.
 fn is_told(told: &[bool], txn: usize) -> bool
@@ -28,7 +28,7 @@ fn is_put(act: Act) -> bool
 }
 
 // Adds those operations that put something.
-fn put_puts(left: &mut Vec<Op>, ops: &[Op]) -> Result<(), AllocError>
+fn put_puts(left: &mut Vec<RecordedOp>, ops: &[RecordedOp]) -> Result<(), AllocError>
     ensures { OnOk result (left.new.items ≡ left.old.items ++ filter (λ o. is_put o.act) ops.now) }
 {
     for i in 0..ops.len() {
@@ -41,7 +41,7 @@ fn put_puts(left: &mut Vec<Op>, ops: &[Op]) -> Result<(), AllocError>
 }
 
 // Adds operations, without the reads where their transaction was told of.
-fn put_ops(left: &mut Vec<Op>, ops: &[Op], is_told: bool) -> Result<(), AllocError>
+fn put_ops(left: &mut Vec<RecordedOp>, ops: &[RecordedOp], is_told: bool) -> Result<(), AllocError>
     ensures { OnOk result (left.new.items ≡ left.old.items ++ without is_told ops.now) }
 {
     if is_told {
@@ -53,8 +53,8 @@ fn put_ops(left: &mut Vec<Op>, ops: &[Op], is_told: bool) -> Result<(), AllocErr
 
 // Adds a transaction, without its reads where it was told of.
 fn put_one(
-    transactions: &mut Vec<Transaction>,
-    left: &mut Vec<Op>,
+    transactions: &mut Vec<RecordedTransaction>,
+    left: &mut Vec<RecordedOp>,
     recording: &Recording,
     is_told: bool,
     txn: usize,
@@ -70,7 +70,7 @@ fn put_one(
     let first = left.len() as u32;
     put_ops(left, recording.ops_of(txn), is_told)?;
     let upto = left.len() as u32;
-    transactions.push(Transaction {
+    transactions.push(RecordedTransaction {
         first,
         upto,
         ..transaction

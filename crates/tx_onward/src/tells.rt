@@ -4,8 +4,8 @@ ghost use Rattle.std.specs.List.{list_any};
 ghost use Rattle.tx_recording.specs.Recordings.{IsRecording, transaction_at, ops_of as ops_in};
 ghost use Rattle.tx_onward.specs.Tells.{is_ok as is_ok_outcome, is_value, puts_value, sees_one, read_by, sees_in, sees_put, sees_one_of, first_keyed, is_on, is_round_of, is_lemma_of, is_on_one, is_dirty, is_named, tells};
 
-use tx_recording::{Act, Op, Recording, Span};
-use tx_verdict::{Anomaly, Cycle, CycleStep, Lemma, Refutation, Settled, Verdict};
+use tx_recording::{Act, RecordedOp, Recording, Span};
+use tx_verdict::{Anomaly, Cycle, CycleStep, HistoryVerdict, Lemma, Refutation, Settled};
 
 // Whether an act puts a value.
 fn is_value(act: Act, value: u32) -> bool
@@ -19,7 +19,7 @@ fn is_value(act: Act, value: u32) -> bool
 }
 
 // Whether one of the operations puts a value.
-fn puts_value(ops: &[Op], value: u32) -> bool
+fn puts_value(ops: &[RecordedOp], value: u32) -> bool
     ensures { result ≡ puts_value ops.now value }
 {
     for i in 0..ops.len() {
@@ -31,7 +31,7 @@ fn puts_value(ops: &[Op], value: u32) -> bool
 }
 
 // Whether one of the operations puts one of the values.
-fn sees_one(ops: &[Op], values: &[u32]) -> bool
+fn sees_one(ops: &[RecordedOp], values: &[u32]) -> bool
     ensures { result ≡ sees_one ops.now values.now }
 {
     for i in 0..values.len() {
@@ -66,14 +66,14 @@ fn values_of(recording: &Recording, span: Span) -> &[u32]
 }
 
 // Whether an operation read in the key what one of some operations put.
-fn sees_in(recording: &Recording, key: u32, ops: &[Op], op: Op) -> bool
+fn sees_in(recording: &Recording, key: u32, ops: &[RecordedOp], op: RecordedOp) -> bool
     ensures { result ≡ sees_in recording.now key ops.now op }
 {
     op.key == key && sees_one(ops, read_by(recording, op.act))
 }
 
 // The operations of a transaction, none past the last one.
-fn ops_of(recording: &Recording, txn: u32) -> &[Op]
+fn ops_of(recording: &Recording, txn: u32) -> &[RecordedOp]
     requires { IsRecording recording.now }
     ensures { result.now ≡ ops_in recording.now txn }
 {
@@ -198,7 +198,7 @@ fn is_ok(recording: &Recording, txn: u32) -> bool
 }
 
 /// Whether a verdict tells of a transaction, which is known to have committed.
-pub(crate) fn tells(recording: &Recording, verdict: &Verdict, txn: u32) -> bool
+pub(crate) fn tells(recording: &Recording, verdict: &HistoryVerdict, txn: u32) -> bool
     requires { IsRecording recording.now }
     ensures { result ≡ tells recording.now verdict.now txn }
 {
@@ -206,9 +206,12 @@ pub(crate) fn tells(recording: &Recording, verdict: &Verdict, txn: u32) -> bool
         return false;
     }
     match verdict {
-        Verdict::No(cycle) => is_named(recording, cycle, txn),
-        Verdict::Refuted(refutation) => is_on_one(refutation, txn),
-        Verdict::Fact(fact) => fact.txn == txn,
-        Verdict::Yes(_) | Verdict::Open(_) | Verdict::Unknown | Verdict::Twice(..) => false,
+        HistoryVerdict::No(cycle) => is_named(recording, cycle, txn),
+        HistoryVerdict::Refuted(refutation) => is_on_one(refutation, txn),
+        HistoryVerdict::Fact(fact) => fact.txn == txn,
+        HistoryVerdict::Yes(_)
+        | HistoryVerdict::Open(_)
+        | HistoryVerdict::Unknown
+        | HistoryVerdict::Twice(..) => false,
     }
 }

@@ -5,7 +5,7 @@ use Rattle.std.proofs.lemmas.List.{length_push, same_from_push}
 use Rattle.std.proofs.lemmas.List.Elements.{Contains-append_right, Contains-append_cases, Contains-push_cases}
 use Rattle.tx_recording.specs.declared.recording.Act.{Act}
 use Rattle.tx_recording.specs.declared.recording.Act.TheVariants.{Append, Write, Read}
-use Rattle.tx_recording.specs.declared.recording.Op.{Op}
+use Rattle.tx_recording.specs.declared.recording.RecordedOp.{RecordedOp}
 use Rattle.tx_recording.specs.Explanations.{act_on, after, Puts, PutsIn}
 
 -- v is the last of the list
@@ -22,26 +22,30 @@ none_last xs v empty (ys, e) =
     let q : length xs ≡ length (ys ++ v ∷ []) = ap length e in
     omega (arith, n, m, q)
 
-pub after_same : (o : Op) (os : List Op) (k : ℕ) (xs : List ℕ) → o.key ≡ k
+pub after_same : (o : RecordedOp) (os : List RecordedOp) (k : ℕ) (xs : List ℕ) → o.key ≡ k
     → after (o ∷ os) k xs ≡ after os k (act_on o.act xs)
 after_same o os k xs e = ap (λ q. after os k q) (cond-true (o.key == k) (act_on o.act xs) xs (eq-eqb o.key k e))
 
-pub after_other : (o : Op) (os : List Op) (k : ℕ) (xs : List ℕ) → (o.key ≡ k → ⊥) → after (o ∷ os) k xs ≡ after os k xs
+pub after_other : (o : RecordedOp) (os : List RecordedOp) (k : ℕ) (xs : List ℕ) → (o.key ≡ k → ⊥)
+    → after (o ∷ os) k xs ≡ after os k xs
 after_other o os k xs ne = ap (λ q. after os k q) (cond-false (o.key == k) (act_on o.act xs) xs (ne_eqb o.key k ne))
 
-pub puts_more : (o : Op) (os : List Op) (k v : ℕ) → PutsIn os k v → PutsIn (o ∷ os) k v
+pub puts_more : (o : RecordedOp) (os : List RecordedOp) (k v : ℕ) → PutsIn os k v → PutsIn (o ∷ os) k v
 puts_more o os k v (q, c, e, p) = (q, Contains-append_right (o ∷ []) os q c, e, p)
 
-pub puts_head : (o : Op) (os : List Op) (k v : ℕ) → o.key ≡ k → Puts o.act v → PutsIn (o ∷ os) k v
+pub puts_head : (o : RecordedOp) (os : List RecordedOp) (k v : ℕ) → o.key ≡ k → Puts o.act v → PutsIn (o ∷ os) k v
 puts_head o os k v e p = (o, (0, omega arith, refl), e, p)
 
-only_one : (o q : Op) → Contains (o ∷ []) q → o ≡ q
+only_one : (o q : RecordedOp) → Contains (o ∷ []) q → o ≡ q
 only_one o q (zero, lt, is) = is
 only_one o q (suc i, lt, is) = absurd (omega (arith, lt))
 
-pub puts_cases : (o : Op) (os : List Op) (k v : ℕ) → PutsIn (o ∷ os) k v → ((o.key ≡ k) × Puts o.act v) ⊎ PutsIn os k v
+pub puts_cases : (o : RecordedOp) (os : List RecordedOp) (k v : ℕ) → PutsIn (o ∷ os) k v
+    → ((o.key ≡ k) × Puts o.act v) ⊎ PutsIn os k v
 puts_cases o os k v (q, c, e, p) = elim (Contains-append_cases (o ∷ []) os q c) [
-  | inl head ↦ (let P : Op → Type 0 = λ z. (z.key ≡ k) × Puts z.act v in inl (subst P (sym (only_one o q head)) (e, p)))
+  | inl head ↦ (
+      let P : RecordedOp → Type 0 = λ z. (z.key ≡ k) × Puts z.act v in
+      inl (subst P (sym (only_one o q head)) (e, p)))
   | inr rest ↦ inr (q, rest, e, p)
 ]
 
@@ -57,7 +61,7 @@ act_contains (Write w) xs v c = elim (Contains-push_cases [] w v c) [
 act_contains (Read span) xs v c = inl c
 
 -- what is left was there, or was put
-pub after_contains : (os : List Op) (k : ℕ) (xs : List ℕ) (v : ℕ) → Contains (after os k xs) v
+pub after_contains : (os : List RecordedOp) (k : ℕ) (xs : List ℕ) (v : ℕ) → Contains (after os k xs) v
     → Contains xs v ⊎ PutsIn os k v
 after_contains [] k xs v c = inl c
 after_contains (o ∷ os) k xs v c = elim (cases_eq o.key k) [
@@ -77,13 +81,13 @@ after_contains (o ∷ os) k xs v c = elim (cases_eq o.key k) [
 ]
 
 -- one value is last in what operations leave of any list, or they put nothing
-abbrev pub EndsIn : List Op → ℕ → ℕ → Type 0
+abbrev pub EndsIn : List RecordedOp → ℕ → ℕ → Type 0
 EndsIn os k v = PutsIn os k v × ((xs : List ℕ) → IsLast (after os k xs) v)
 
-abbrev pub PutsNothing : List Op → ℕ → Type 0
+abbrev pub PutsNothing : List RecordedOp → ℕ → Type 0
 PutsNothing os k = ((v : ℕ) → PutsIn os k v → ⊥) × ((xs : List ℕ) → after os k xs ≡ xs)
 
-puts_head_nothing : (o : Op) (os : List Op) (k : ℕ) → ((v : ℕ) → PutsIn os k v → ⊥)
+puts_head_nothing : (o : RecordedOp) (os : List RecordedOp) (k : ℕ) → ((v : ℕ) → PutsIn os k v → ⊥)
     → ((v : ℕ) → o.key ≡ k → Puts o.act v → ⊥) → (v : ℕ) → PutsIn (o ∷ os) k v → ⊥
 puts_head_nothing o os k rest head v p = elim (puts_cases o os k v p) [
   | inl at ↦ head v at.0 at.1
@@ -96,7 +100,7 @@ head_ends (Append w) = inl (w, refl, λ xs. (xs, refl))
 head_ends (Write w) = inl (w, refl, λ xs. ([], refl))
 head_ends (Read span) = inr (λ v p. p, λ xs. refl)
 
-pub ends : (os : List Op) (k : ℕ) → ((v : ℕ) × EndsIn os k v) ⊎ PutsNothing os k
+pub ends : (os : List RecordedOp) (k : ℕ) → ((v : ℕ) × EndsIn os k v) ⊎ PutsNothing os k
 ends [] k = inr (λ v p. no_puts k v p, λ xs. refl)
 ends (o ∷ os) k = elim (ends os k) [
   | inl (v, (put, last)) ↦ inl (v, (puts_more o os k v put, λ xs. last (cond (o.key == k) (act_on o.act xs) xs)))

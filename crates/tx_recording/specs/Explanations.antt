@@ -2,11 +2,11 @@
 -- each key it sees what the newest committed writer at or below its start left there, it does its
 -- operations on that, and it leaves what comes of it.
 use Rattle.std.specs.Prelude.{◌≡◌, ◌≢◌, ◌⊎◌, ℕ, ◌<◌, ◌≤◌, ◌==◌, Bool, false, cond, List, [], ◌∷◌, ◌++◌, Contains, Some, IsTrue, take, slice_index_or}
-use Rattle.tx_recording.specs.declared.recording.Outcome.TheVariants.{Ok, Fail}
+use Rattle.tx_recording.specs.declared.recording.RecordedOutcome.TheVariants.{Ok, Fail}
 use Rattle.tx_recording.specs.declared.recording.Span.{Span}
 use Rattle.tx_recording.specs.declared.recording.Act.{Act}
 use Rattle.tx_recording.specs.declared.recording.Act.TheVariants.{Append, Write, Read}
-use Rattle.tx_recording.specs.declared.recording.Op.{Op}
+use Rattle.tx_recording.specs.declared.recording.RecordedOp.{RecordedOp}
 use Rattle.tx_recording.specs.declared.recording.Orders.{Orders}
 use Rattle.tx_recording.specs.declared.recording.Recording.{Recording}
 use Rattle.tx_recording.specs.Recordings.{txns_of, transaction_at, ops_of, list_of, no_op}
@@ -18,7 +18,7 @@ act_on (Write v) xs = v ∷ []
 act_on (Read span) xs = xs
 
 -- what operations leave of what a key holds
-abbrev pub after : List Op → ℕ → List ℕ → List ℕ
+abbrev pub after : List RecordedOp → ℕ → List ℕ → List ℕ
 after [] k xs = xs
 after (o ∷ os) k xs = after os k (cond (o.key == k) (act_on o.act xs) xs)
 
@@ -29,8 +29,8 @@ Puts (Write w) v = w ≡ v
 Puts (Read span) v = ⊥
 
 -- one of the operations puts v into k
-abbrev pub PutsIn : List Op → ℕ → ℕ → Type 0
-PutsIn os k v = (o : Op) × Contains os o × (o.key ≡ k) × Puts o.act v
+abbrev pub PutsIn : List RecordedOp → ℕ → ℕ → Type 0
+PutsIn os k v = (o : RecordedOp) × Contains os o × (o.key ≡ k) × Puts o.act v
 
 -- t puts v into k
 abbrev pub IsPut : Recording → ℕ → ℕ → ℕ → Type 0
@@ -61,7 +61,7 @@ abbrev pub Sees : Recording → Explanation → ℕ → ℕ → List ℕ → Typ
 Sees r x k at xs = ((u : ℕ) × IsNewest r x k at u × (xs ≡ x.left u k))
     ⊎ (((w : ℕ) → IsWriter r x w k → at < x.commit w) × (xs ≡ []))
 
-abbrev pub op_at : Recording → ℕ → ℕ → Op
+abbrev pub op_at : Recording → ℕ → ℕ → RecordedOp
 op_at r t p = slice_index_or (ops_of r t) p no_op
 
 -- one of a process and one that it ran later: the first is known to have committed

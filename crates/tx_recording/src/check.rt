@@ -1,18 +1,18 @@
 //! Whether what stands in a recording is there.
 ghost use Rattle.std.specs.Prelude.{◌≡◌, ◌↔◌, ◌+◌, ◌^◌, ◌<◌, ◌≤◌, length, All, IsTrue};
-ghost use Rattle.tx_recording.specs.declared.recording.Outcome.TheVariants.{Ok as Committed};
+ghost use Rattle.tx_recording.specs.declared.recording.RecordedOutcome.TheVariants.{Ok as Committed};
 ghost use Rattle.tx_recording.specs.Recordings.{IsRecording, IsTransactionOf, IsActOf, IsOpOf, ops_of, list_of};
 
-use crate::recording::{Act, Op, Outcome, Recording, Span};
+use crate::recording::{Act, RecordedOp, RecordedOutcome, Recording, Span};
 
-impl Outcome {
+impl RecordedOutcome {
     /// Whether it is known to have committed.
     pub fn is_ok(self) -> bool
         ensures { IsTrue result ↔ (self ≡ Committed) }
     {
         match self {
-            Outcome::Ok => true,
-            Outcome::Fail | Outcome::Info => false,
+            RecordedOutcome::Ok => true,
+            RecordedOutcome::Fail | RecordedOutcome::Info => false,
         }
     }
 }
@@ -68,7 +68,7 @@ impl Recording {
     }
 
     /// The operations of a transaction.
-    pub fn ops_of(&self, txn: usize) -> &[Op]
+    pub fn ops_of(&self, txn: usize) -> &[RecordedOp]
         requires recording { IsRecording self.now }
         requires within { txn < length self.now.transactions.items }
         ensures are { result.now ≡ ops_of self.now txn }

@@ -5,4 +5,6 @@
 mod check;
 mod recording;
 
-pub use recording::{Act, Op, Orders, Outcome, Recording, Span, Transaction};
+pub use recording::{
+    Act, Orders, RecordedOp, RecordedOutcome, RecordedTransaction, Recording, Span,
+};

@@ -2,7 +2,7 @@
 
 /// What is known of a transaction's end.
 #[derive(Clone, Copy, Debug, PartialEq, Eq)]
-pub enum Outcome {
+pub enum RecordedOutcome {
     /// It committed.
     Ok,
     /// It did not commit.
@@ -32,17 +32,17 @@ pub enum Act {
 
 /// An operation of a transaction.
 #[derive(Clone, Copy, Debug, PartialEq, Eq)]
-pub struct Op {
+pub struct RecordedOp {
     pub key: u32,
     pub act: Act,
 }
 
 /// A transaction that was recorded.
 #[derive(Clone, Copy, Debug, PartialEq, Eq)]
-pub struct Transaction {
+pub struct RecordedTransaction {
     /// What its line calls it.
     pub id: u64,
-    pub outcome: Outcome,
+    pub outcome: RecordedOutcome,
     /// Who ran it: a process runs one after the other.
     pub process: Option<u32>,
     /// When it began by the recorder's clock.
@@ -60,8 +60,8 @@ pub struct Transaction {
 #[derive(Debug, Drop)]
 pub struct Recording {
     /// In the order of the lines: of one process, in the order in which it ran them.
-    pub transactions: Vec<Transaction>,
-    pub ops: Vec<Op>,
+    pub transactions: Vec<RecordedTransaction>,
+    pub ops: Vec<RecordedOp>,
     /// What was read, of all reads.
     pub elements: Vec<u32>,
     /// How many keys there are.

@@ -6,7 +6,7 @@ use Rattle.tx_types.specs.declared.mutation.Mutation.{Mutation}
 use Rattle.tx_types.specs.declared.mutation.Mutation.TheVariants.{Put}
 use Rattle.tx_types.specs.Keys.{IsVisible}
 use Rattle.tx_machine.specs.Machine.{Rows, Commits, Sees}
-use Rattle.tx_recording.specs.declared.recording.Outcome.TheVariants.{Ok, Fail}
+use Rattle.tx_recording.specs.declared.recording.RecordedOutcome.TheVariants.{Ok, Fail}
 use Rattle.tx_recording.specs.declared.recording.Span.{Span}
 use Rattle.tx_recording.specs.declared.recording.Act.TheVariants.{Read}
 use Rattle.tx_recording.specs.declared.recording.Orders.{Orders}

@@ -9,8 +9,8 @@ use crate::solver::{Clash, Learned, Left, Solver};
 use crate::trail::{Book, Chosen, Trail, first_of, last_of, trail_of};
 use std::alloc::{AllocError, Global};
 use tx_chains::{number, put_at};
-use tx_verdict::{Behind, Edge, Ground, Hint, Lemma, Order, Refutation, Versions};
-use tx_web::{Finds, Link, Lists, Loose, Why, note_used};
+use tx_verdict::{Behind, EdgeKind, Ground, Hint, Lemma, Refutation, Versions, WriteOrder};
+use tx_web::{Finds, Link, LinkReason, Lists, Loose, note_used};
 
 // Which clauses are told, and by clause its number among these.
 #[derive(Drop)]
@@ -84,9 +84,9 @@ fn link_of(links: &[Link], line: Line) -> Link {
         }
     }
     let why = if line.past {
-        Why::ChosenPast(line.literal)
+        LinkReason::ChosenPast(line.literal)
     } else {
-        Why::Chosen(line.literal)
+        LinkReason::Chosen(line.literal)
     };
     Link {
         from: line.from,
@@ -137,8 +137,8 @@ struct Telling {
 
 impl Book<'_> {
     // The order that a literal says.
-    fn order_of(&self, literal: u32) -> Order {
-        let none = Order {
+    fn order_of(&self, literal: u32) -> WriteOrder {
+        let none = WriteOrder {
             key: 0,
             first: 0,
             second: 0,
@@ -151,7 +151,7 @@ impl Book<'_> {
         } else {
             (other.first, one.last)
         };
-        Order {
+        WriteOrder {
             key: one.key,
             first,
             second,
@@ -186,8 +186,8 @@ impl Book<'_> {
         let (from, to) = (one.last, other.first);
         let forth = Ground::Written(Behind::Known(place, last_of(one), first_of(other)));
         let back = Ground::Written(Behind::Known(odd, first_of(other), last_of(one)));
-        trail.push(from, Edge::Ww, Some(one.key), to, forth)?;
-        trail.push(to, Edge::Ww, Some(one.key), from, back)?;
+        trail.push(from, EdgeKind::Ww, Some(one.key), to, forth)?;
+        trail.push(to, EdgeKind::Ww, Some(one.key), from, back)?;
         Ok(trail)
     }
 }
@@ -266,7 +266,11 @@ fn telling_of(
 }
 
 // The orders of literals.
-fn clause_of(alloc: Global, book: &Book<'_>, literals: &[u32]) -> Result<Vec<Order>, AllocError> {
+fn clause_of(
+    alloc: Global,
+    book: &Book<'_>,
+    literals: &[u32],
+) -> Result<Vec<WriteOrder>, AllocError> {
     let mut clause = Vec::new(alloc);
     for i in 0..literals.len() {
         clause.push(book.order_of(literals[i]))?;

@@ -5,7 +5,7 @@ use crate::trail::{Book, trail_of};
 use std::alloc::{AllocError, Global};
 use tx_chains::{number, put_at};
 use tx_verdict::{Refutation, Settled, Versions};
-use tx_web::{Finds, Found, Link, Lists, Paths, Why, ends_of, note_used};
+use tx_web::{ChainOrder, Finds, Link, LinkReason, Lists, Paths, ends_of, note_used};
 
 // The edges that show an order that was found.
 #[derive(Drop)]
@@ -41,7 +41,7 @@ fn shown_of(
     finds: &Finds<'_>,
     by_node: &Lists,
     place: u32,
-    found: Found,
+    found: ChainOrder,
 ) -> Result<Option<Shown>, AllocError> {
     let Some((from, to)) = ends_of(&finds.web, finds.loose, found) else {
         return Ok(None);
@@ -55,9 +55,9 @@ fn shown_of(
         return Ok(None);
     };
     let why = if found.by_start {
-        Why::Opposite(place)
+        LinkReason::Opposite(place)
     } else {
-        Why::OppositePast(place)
+        LinkReason::OppositePast(place)
     };
     links.push(Link {
         from: to,

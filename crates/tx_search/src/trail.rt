@@ -4,8 +4,8 @@ ghost use Rattle.tx_history.specs.Records.{IsRecorded};
 use crate::pairs::Pairs;
 use std::alloc::{AllocError, Global};
 use tx_chains::number;
-use tx_verdict::{Behind, CycleStep, Edge, Ground, Order, Stretch, Versions};
-use tx_web::{Found, Link, Loose, Why};
+use tx_verdict::{Behind, CycleStep, EdgeKind, Ground, Stretch, Versions, WriteOrder};
+use tx_web::{ChainOrder, Link, LinkReason, Loose};
 
 /// A literal that is known in a lemma, and its place among all orders that are known there.
 #[derive(Clone, Copy)]
@@ -20,7 +20,7 @@ pub(crate) struct Book<'a> {
     // how many transactions are no moments of the clock
     pub(crate) txns: u32,
     pub(crate) loose: &'a [Loose],
-    pub(crate) found: &'a [Found],
+    pub(crate) found: &'a [ChainOrder],
     // by order that was found: its place among those that are told
     pub(crate) places: Vec<u32>,
     pub(crate) pairs: Option<&'a Pairs>,
@@ -96,14 +96,14 @@ impl Book<'_> {
     }
 
     // The order that was found.
-    pub(crate) fn order(&self, found: u32) -> Order {
+    pub(crate) fn order(&self, found: u32) -> WriteOrder {
         match self.pair(found) {
-            Some((before, behind, _)) => Order {
+            Some((before, behind, _)) => WriteOrder {
                 key: before.key,
                 first: before.last,
                 second: behind.first,
             },
-            None => Order {
+            None => WriteOrder {
                 key: 0,
                 first: 0,
                 second: 0,
@@ -155,7 +155,7 @@ impl Trail {
     pub(crate) fn push(
         &mut self,
         from: u32,
-        edge: Edge,
+        edge: EdgeKind,
         key: Option<u32>,
         to: u32,
         ground: Ground,
@@ -179,9 +179,9 @@ impl Trail {
         match self.began {
             Some(began) => {
                 self.began = None;
-                self.push(began, Edge::Rt, None, to, Ground::Asked)
+                self.push(began, EdgeKind::Rt, None, to, Ground::Asked)
             }
-            None => self.push(from, Edge::So, None, to, Ground::Asked),
+            None => self.push(from, EdgeKind::So, None, to, Ground::Asked),
         }
     }
 
@@ -191,7 +191,7 @@ impl Trail {
             Some((reader, _)) => reader,
             None => 0,
         };
-        self.push(from, Edge::Rw, Some(key), to, ground)
+        self.push(from, EdgeKind::Rw, Some(key), to, ground)
     }
 
     // The view of the reader.
@@ -220,7 +220,7 @@ impl Trail {
             return self.missed(key, to, Ground::Missed(view, last, behind));
         }
         let ground = Ground::Written(behind);
-        self.push(link.from / 2, Edge::Ww, Some(key), to, ground)
+        self.push(link.from / 2, EdgeKind::Ww, Some(key), to, ground)
     }
 
     // Adds the step of an edge.
@@ -230,27 +230,38 @@ impl Trail {
         let from = link.from / 2;
         let to = link.to / 2;
         match link.why {
-            Why::Own => Ok(()),
-            Why::After => self.after(book.txns, from, to),
-            Why::Wrote(key, behind) => {
-                self.push(from, Edge::Ww, Some(key), to, Ground::Written(behind))
+            LinkReason::Own => Ok(()),
+            LinkReason::After => self.after(book.txns, from, to),
+            LinkReason::Wrote(key, behind) => {
+                self.push(from, EdgeKind::Ww, Some(key), to, Ground::Written(behind))
             }
-            Why::Saw(key, view) => self.push(from, Edge::Wr, Some(key), to, Ground::Seen(view)),
-            Why::Missed(key, ground) => self.push(from, Edge::Rw, Some(key), to, ground),
-            Why::Reads(view) => {
+            LinkReason::Saw(key, view) => self.push(
+                from,
+                EdgeKind::Wr,
+                Some(key),
+                to,
+                Ground::Seen(view),
+            ),
+            LinkReason::Missed(key, ground) => self.push(from, EdgeKind::Rw, Some(key), to, ground),
+            LinkReason::Reads(view) => {
                 self.reader = Some((from, view));
                 Ok(())
             }
-            Why::Past(key) => {
+            LinkReason::Past(key) => {
                 let ground = past(versions, self.view(), key);
                 self.missed(key, to, ground)
             }
-            Why::Found(found) => self.known(link, book.pair(found), false, false),
-            Why::FoundPast(found) => self.known(link, book.pair(found), false, true),
-            Why::Opposite(found) => self.known(link, book.pair(found), true, false),
-            Why::OppositePast(found) => self.known(link, book.pair(found), true, true),
-            Why::Chosen(literal) => self.known(link, book.chosen(literal), literal % 2 == 1, false),
-            Why::ChosenPast(literal) => {
+            LinkReason::Found(found) => self.known(link, book.pair(found), false, false),
+            LinkReason::FoundPast(found) => self.known(link, book.pair(found), false, true),
+            LinkReason::Opposite(found) => self.known(link, book.pair(found), true, false),
+            LinkReason::OppositePast(found) => self.known(link, book.pair(found), true, true),
+            LinkReason::Chosen(literal) => self.known(
+                link,
+                book.chosen(literal),
+                literal % 2 == 1,
+                false,
+            ),
+            LinkReason::ChosenPast(literal) => {
                 self.known(link, book.chosen(literal), literal % 2 == 1, true)
             }
         }

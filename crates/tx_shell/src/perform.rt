@@ -14,7 +14,7 @@ use std::mem::swap;
 use std::sync::Wait;
 use std::thread::Threads;
 use std::time::{Duration, Instant};
-use tx_answers::{Answered, CycleForm, ImportEnd, ImportOptions, import};
+use tx_answers::{AnswerOptions, Answered, CycleForm, ImportEnd, import};
 use tx_check::{check, check_all, check_with_reason};
 use tx_command::{CommandEnd, CommandTask, LevelKind};
 use tx_hints::escaped_lines;
@@ -92,7 +92,7 @@ fn form_of(told: tx_command::ImportOptions) -> CycleForm {
 // Judges a history, and says on standard error why. What cannot be said there is left out.
 fn judge<I: BufRead, O: Write>(
     asked: &Invocation<'_>,
-    options: ImportOptions,
+    options: AnswerOptions,
     reader: &mut I,
     writer: &mut O,
 ) -> Result<CommandEnd, Broken> {
@@ -187,7 +187,7 @@ where
 {
     match asked.job.task {
         CommandTask::Import(told) => {
-            let options = ImportOptions {
+            let options = AnswerOptions {
                 question: question_of(told),
                 trace: told.trace,
                 form: form_of(told),

@@ -5,7 +5,7 @@ use Rattle.std.proofs.lemmas.List.{get_or_append_left, get_or-append_right, leng
 use Rattle.std.proofs.lemmas.List.Elements.{Contains-get_or, Contains-append_right}
 use Rattle.tx_recording.specs.declared.recording.Act.{Act}
 use Rattle.tx_recording.specs.declared.recording.Act.TheVariants.{Append, Write, Read}
-use Rattle.tx_recording.specs.declared.recording.Op.{Op}
+use Rattle.tx_recording.specs.declared.recording.RecordedOp.{RecordedOp}
 use Rattle.tx_recording.specs.declared.recording.Orders.{Orders}
 use Rattle.tx_recording.specs.declared.recording.Recording.{Recording}
 use Rattle.tx_recording.specs.Recordings.{ops_of}
@@ -17,7 +17,7 @@ use Rattle.tx_views.proofs.ReadViews.{appended}
 use Rattle.tx_verdict.proofs.Distinct.{IsDistinct, IsOnce, seen_distinct}
 
 -- operations leave these values in place of what there was, or behind it; and they put them
-pub record Splits (os : List Op) (k : ℕ) : Type 0 where
+pub record Splits (os : List RecordedOp) (k : ℕ) : Type 0 where
   pub values : List ℕ
   pub put : (v : ℕ) → Contains values v → PutsIn os k v
   pub left : ((xs : List ℕ) → after os k xs ≡ values) ⊎ ((xs : List ℕ) → after os k xs ≡ xs ++ values)
@@ -30,7 +30,8 @@ cons_cases w ws v (zero, lt, is) = inl is
 cons_cases w ws v (suc i, lt, is) = inr (i, omega (arith, lt), is)
 
 -- one operation more in front, on the key
-head_splits : (o : Op) (os : List Op) (k : ℕ) (a : Act) → o.act ≡ a → o.key ≡ k → Splits os k → Splits (o ∷ os) k
+head_splits : (o : RecordedOp) (os : List RecordedOp) (k : ℕ) (a : Act) → o.act ≡ a → o.key ≡ k → Splits os k
+    → Splits (o ∷ os) k
 head_splits o os k (Read s) is at rest = record {
   values = rest.values;
   put = λ v c. puts_more o os k v (rest.put v c);
@@ -71,7 +72,7 @@ head_splits o os k (Write w) is at rest = elim rest.left [
   }
 ]
 
-pub splits : (os : List Op) (k : ℕ) → Splits os k
+pub splits : (os : List RecordedOp) (k : ℕ) → Splits os k
 splits [] k = record { values = []; put = λ v c. absurd (none_in v c); left = inr (λ xs. sym (append-nil xs)) }
 splits (o ∷ os) k = elim (cases_eq o.key k) [
   | inl same ↦ head_splits o os k o.act refl same (splits os k)

@@ -5,12 +5,12 @@ use Rattle.std.proofs.lemmas.Option.{slice_get-get_or}
 use Rattle.tx_recording.specs.declared.recording.Orders.{Orders}
 use Rattle.tx_recording.specs.declared.recording.Recording.{Recording}
 use Rattle.std.proofs.lemmas.Bool.{cases_eq}
-use Rattle.tx_history.specs.declared.dependency.Kind.{Kind}
-use Rattle.tx_history.specs.declared.dependency.Kind.TheVariants.{Own, Ww, Wr, Rw, After}
+use Rattle.tx_history.specs.declared.dependency.DependencyKind.{DependencyKind}
+use Rattle.tx_history.specs.declared.dependency.DependencyKind.TheVariants.{Own, Ww, Wr, Rw, After}
 use Rattle.tx_history.specs.Histories.{History, HasVersion}
 use Rattle.tx_history.specs.declared.dependency.Dependency.{Dependency}
 use Rattle.tx_history.specs.Dependencies.{Depends, AreDependencies}
-use Rattle.tx_verdict.specs.declared.verdict.Edge.{Edge}
+use Rattle.tx_verdict.specs.declared.verdict.EdgeKind.{EdgeKind}
 use Rattle.tx_verdict.specs.declared.verdict.CycleStep.{CycleStep}
 use Rattle.tx_verdict.specs.Forced.{AreForced}
 use Rattle.tx_verdict.specs.Reasons.{SawOf, HasWritten, IsBehind, HasMissed}
@@ -28,7 +28,7 @@ module _ (r : Recording) (orders : Orders) (h : History) (key : ℕ → ℕ) (f 
         )
   ]
 
-  by_kind : (kind : Kind) (t u q v : ℕ) (e : Edge) → Depends h kind t u q v → IsEdgeFor kind e
+  by_kind : (kind : DependencyKind) (t u q v : ℕ) (e : EdgeKind) → Depends h kind t u q v → IsEdgeFor kind e
       → IsEdgeOf r orders e t u (Some (key q))
   by_kind Own t u q v e depends none = absurd none
   by_kind After t u q v e depends none = absurd none
@@ -36,18 +36,19 @@ module _ (r : Recording) (orders : Orders) (h : History) (key : ℕ → ℕ) (f 
       let P : ℕ → Type 0 = λ z. HasWritten r z (key q) × HasWritten r u (key q) × IsBehind r (key q) z u in
       let Q : ℕ → Type 0 = λ z. HasWritten r (h.writer q v) (key q) × HasWritten r z (key q)
       × IsBehind r (key q) (h.writer q v) z in
-      let R : Edge → Type 0 = λ z. IsEdgeOf r orders z t u (Some (key q)) in
+      let R : EdgeKind → Type 0 = λ z. IsEdgeOf r orders z t u (Some (key q)) in
       subst R (sym is) (subst P from (subst Q to (f.writers q v has, f.writers q (v + 1) more, f.steps q v has more)))
   by_kind Wr t u q v e (reads, has, from) is =
       let P : ℕ → Type 0 = λ z. SawOf r u (key q) z in
-      let R : Edge → Type 0 = λ z. IsEdgeOf r orders z t u (Some (key q)) in
+      let R : EdgeKind → Type 0 = λ z. IsEdgeOf r orders z t u (Some (key q)) in
       subst R (sym is) (subst P from (f.seen record { txn = u; key = q; version = v } reads has))
   by_kind Rw t u q v e (reads, has, to) is =
       let P : ℕ → Type 0 = λ z. HasWritten r z (key q) × HasMissed r (key q) t z in
-      let R : Edge → Type 0 = λ z. IsEdgeOf r orders z t u (Some (key q)) in
+      let R : EdgeKind → Type 0 = λ z. IsEdgeOf r orders z t u (Some (key q)) in
       subst R (sym is) (subst P to (f.writers q (v + 1) has, missed t q v reads has))
 
-  pub step_on : (kind : Kind) (t u q v k : ℕ) (e : Edge) → Depends h kind t u q v → IsEdgeFor kind e → k ≡ key q
+  pub step_on : (kind : DependencyKind) (t u q v k : ℕ) (e : EdgeKind) → Depends h kind t u q v → IsEdgeFor kind e
+      → k ≡ key q
       → IsStep r orders record { from = t; edge = e; key = Some k; to = u }
   step_on kind t u q v k e depends is at =
       let P : ℕ → Type 0 = λ z. IsEdgeOf r orders e t u (Some z) in

@@ -5,7 +5,7 @@ use Rattle.std.proofs.lemmas.List.{get_or_append_left, get_or-append_right, leng
 use Rattle.std.proofs.lemmas.List.Elements.{Contains-get_or, Contains-push_cases}
 use Rattle.tx_recording.specs.declared.recording.Act.{Act}
 use Rattle.tx_recording.specs.declared.recording.Act.TheVariants.{Append, Write, Read}
-use Rattle.tx_recording.specs.declared.recording.Op.{Op}
+use Rattle.tx_recording.specs.declared.recording.RecordedOp.{RecordedOp}
 use Rattle.tx_recording.specs.declared.recording.Orders.{Orders}
 use Rattle.tx_recording.specs.declared.recording.Recording.{Recording}
 use Rattle.tx_recording.specs.Recordings.{ops_of, no_op}
@@ -16,7 +16,7 @@ use Rattle.tx_views.proofs.ValueOwners.{puts_one}
 pub use Rattle.tx_verdict.specs.Facts.{IsDistinct}
 
 -- operations that put each value once
-abbrev pub IsOnce : List Op → Type 0
+abbrev pub IsOnce : List RecordedOp → Type 0
 IsOnce os = (p q v : ℕ) → p < length os → q < length os → Puts (get_or os p no_op).act v
     → Puts (get_or os q no_op).act v → p ≡ q
 
@@ -50,20 +50,20 @@ push_distinct xs v distinct new i j a b e =
       ]
     ]
 
-once_rest : (o : Op) (os : List Op) → IsOnce (o ∷ os) → IsOnce os
+once_rest : (o : RecordedOp) (os : List RecordedOp) → IsOnce (o ∷ os) → IsOnce os
 once_rest o os once p q v a b put also =
     (let e = once (suc p) (suc q) v (omega (arith, a)) (omega (arith, b)) put also in omega (arith, e))
 
 -- what the first operation puts no later one does
-head_new : (o : Op) (os : List Op) (k v : ℕ) → IsOnce (o ∷ os) → Puts o.act v → PutsIn os k v → ⊥
+head_new : (o : RecordedOp) (os : List RecordedOp) (k v : ℕ) → IsOnce (o ∷ os) → Puts o.act v → PutsIn os k v → ⊥
 head_new o os k v once put (q, (i, lt, is), e, also) =
     let at : get_or os i no_op ≡ q = get_or_default os i no_op q lt ∙ is in
-    let P : Op → Type 0 = λ z. Puts z.act v in
+    let P : RecordedOp → Type 0 = λ z. Puts z.act v in
     let later : Puts (get_or os i no_op).act v = subst P (sym at) also in
     let same = once zero (suc i) v (omega arith) (omega (arith, lt)) put later in
     omega (arith, same)
 
-abbrev AreNew : List ℕ → List Op → ℕ → Type 0
+abbrev AreNew : List ℕ → List RecordedOp → ℕ → Type 0
 AreNew xs os k = (v : ℕ) → Contains xs v → PutsIn os k v → ⊥
 
 act_distinct : (a : Act) (xs : List ℕ) → IsDistinct xs → ((v : ℕ) → Puts a v → Contains xs v → ⊥)
@@ -80,7 +80,7 @@ act_new (Write w) xs v c = elim (Contains-push_cases [] w v c) [
 ]
 act_new (Read s) xs v c = inl c
 
-pub after_distinct : (os : List Op) (k : ℕ) (xs : List ℕ) → IsDistinct xs → IsOnce os → AreNew xs os k
+pub after_distinct : (os : List RecordedOp) (k : ℕ) (xs : List ℕ) → IsDistinct xs → IsOnce os → AreNew xs os k
     → IsDistinct (after os k xs)
 after_distinct [] k xs distinct once new = distinct
 after_distinct (o ∷ os) k xs distinct once new = elim (cases_eq o.key k) [

@@ -2,17 +2,17 @@
 use Rattle.std.proofs.Common.{◌≡◌, ◌⊎◌, ◌≢◌, ℕ, ◌+◌, ◌-◌, ◌<◌, ◌≤◌, ◌==◌, Bool, true, false, cond, List, [], ◌∷◌, ◌++◌, length, take, Contains, arith, inl, inr, refl, sym, ap, ◌∙◌, subst, zero, suc, IsTrue, get_or, eq-eqb}
 use Rattle.std.proofs.lemmas.Bool.{cases_eq, cases_lt, cond-true, cond-false, ne_eqb, false≢true}
 use Rattle.std.proofs.lemmas.List.{get_or_past, get_or-take, length-take, length_push}
-use Rattle.tx_recording.specs.declared.recording.Outcome.TheVariants.{Ok, Fail}
+use Rattle.tx_recording.specs.declared.recording.RecordedOutcome.TheVariants.{Ok, Fail}
 use Rattle.tx_recording.specs.declared.recording.Act.TheVariants.{Append, Read}
-use Rattle.tx_recording.specs.declared.recording.Op.{Op}
+use Rattle.tx_recording.specs.declared.recording.RecordedOp.{RecordedOp}
 use Rattle.tx_recording.specs.declared.recording.Span.{Span}
 use Rattle.tx_recording.specs.declared.recording.Orders.{Orders}
-use Rattle.tx_recording.specs.declared.recording.Transaction.{Transaction}
+use Rattle.tx_recording.specs.declared.recording.RecordedTransaction.{RecordedTransaction}
 use Rattle.tx_recording.specs.declared.recording.Recording.{Recording}
 use Rattle.tx_recording.specs.Recordings.{txns_of, transaction_at, ops_of, list_of, no_op, no_transaction}
 use Rattle.tx_recording.specs.Explanations.{after, op_at, IsPut, PutsIn, Explanation, IsWriter, IsNewest, Sees, Explains, Precedes}
 use Rattle.tx_recording.proofs.Puts.{ends}
-use Rattle.tx_views.specs.declared.view.View.{View}
+use Rattle.tx_views.specs.declared.view.RecordedView.{RecordedView}
 use Rattle.tx_views.specs.Views.{AreViews, IsAnswered}
 use Rattle.tx_clock.proofs.ClockOrder.{is_one}
 use Rattle.tx_history.specs.Histories.{History, HasVersion, IsAssignment}
@@ -40,10 +40,10 @@ same_act s e = (cc)
 pub within : (r : Recording) (t p : ℕ) (s : Span) → (op_at r t p).act ≡ Read s → p < length (ops_of r t)
 within r t p s is = elim (cases_lt p (length (ops_of r t))) [
   | inl lt ↦ lt
-  | inr past ↦ absurd (same_act s (sym (ap (λ (o : Op). o.act) (get_or_past (ops_of r t) p no_op past)) ∙ is))
+  | inr past ↦ absurd (same_act s (sym (ap (λ (o : RecordedOp). o.act) (get_or_past (ops_of r t) p no_op past)) ∙ is))
 ]
 
-puts_in_more : (os : List Op) (n k v : ℕ) → PutsIn (take n os) k v → PutsIn os k v
+puts_in_more : (os : List RecordedOp) (n k v : ℕ) → PutsIn (take n os) k v → PutsIn os k v
 puts_in_more os n k v (o, (i, lt, is), e, p) =
     let m = length-take n os in
     let a : i < n = omega (arith, lt, m) in
@@ -53,7 +53,8 @@ puts_in_more os n k v (o, (i, lt, is), e, p) =
 nothing_is_all : (xs : List ℕ) → xs ≡ 0 ∷ [] → length xs ≡ 0 → ⊥
 nothing_is_all xs e none = (let n = ap length e in omega (arith, n, none))
 
-module _ (r : Recording) (orders : Orders) (views : List View) (h : History) (live : ℕ → Bool) (text : ℕ → ℕ → List ℕ)
+module _ (r : Recording) (orders : Orders) (views : List RecordedView) (h : History) (live : ℕ → Bool)
+    (text : ℕ → ℕ → List ℕ)
     (start commit : ℕ → ℕ) (v : AreViews r views) (fit : IsFit r views h live text)
     (a : IsAssignment h start commit) where
   abbrev x : Explanation
@@ -63,7 +64,7 @@ module _ (r : Recording) (orders : Orders) (views : List View) (h : History) (li
   below t is = elim (cases_lt t (txns_of r)) [
     | inl lt ↦ (let n = fit.txns in omega (arith, lt, n))
     | inr past ↦ absurd (
-        let none = fit.fail t (ap (λ (q : Transaction). q.outcome)
+        let none = fit.fail t (ap (λ (q : RecordedTransaction). q.outcome)
         (get_or_past r.transactions.items t no_transaction past)) in
         false≢true (sym none ∙ is)
         )
@@ -193,7 +194,7 @@ module _ (r : Recording) (orders : Orders) (views : List View) (h : History) (li
       ]
 
   -- what is seen of a view is what the reader saw
-  sees_view : (w : View) → Contains views w → Sees r x w.key (start w.txn) (list_of r w.span)
+  sees_view : (w : RecordedView) → Contains views w → Sees r x w.key (start w.txn) (list_of r w.span)
   sees_view w is =
       let (i, high, in_reads, same) = fit.reads w is in
       subst (λ q. Sees r x w.key (start w.txn) q) (sym same)

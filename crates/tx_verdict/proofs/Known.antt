@@ -11,10 +11,10 @@ use Rattle.tx_views.specs.Owners.{AreOwners}
 use Rattle.tx_clock.proofs.ClockOrder.{is_one}
 use Rattle.tx_verdict.specs.declared.question.Level.TheVariants.{Serializable}
 use Rattle.tx_verdict.specs.declared.question.Question.{Question}
-use Rattle.tx_verdict.specs.declared.verdict.Edge.{Edge}
-use Rattle.tx_verdict.specs.declared.verdict.Edge.TheVariants.{Ww, Wr, Rw, So, Rt}
+use Rattle.tx_verdict.specs.declared.verdict.EdgeKind.{EdgeKind}
+use Rattle.tx_verdict.specs.declared.verdict.EdgeKind.TheVariants.{Ww, Wr, Rw, So, Rt}
 use Rattle.tx_verdict.specs.declared.verdict.CycleStep.{CycleStep}
-use Rattle.tx_verdict.specs.declared.refutation.Order.{Order}
+use Rattle.tx_verdict.specs.declared.refutation.WriteOrder.{WriteOrder}
 use Rattle.tx_verdict.specs.declared.refutation.Settled.{Settled}
 use Rattle.tx_verdict.specs.declared.refutation.Hint.{Hint}
 use Rattle.tx_verdict.specs.declared.refutation.Lemma.{Lemma}
@@ -27,16 +27,16 @@ use Rattle.tx_verdict.proofs.Reasons.{newest_of, writer_of, next_of}
 use Rattle.tx_verdict.proofs.Rounds.{IsHeld, Leads, step_held, none_goes_round}
 
 -- under the explanation the first had committed when the second started
-abbrev pub Holds : Explanation → Order → Type 0
+abbrev pub Holds : Explanation → WriteOrder → Type 0
 Holds x o = x.commit o.first ≤ x.start o.second
 
-abbrev pub AllHold : Explanation → List Order → Type 0
-AllHold x known = (o : Order) → Contains known o → Holds x o
+abbrev pub AllHold : Explanation → List WriteOrder → Type 0
+AllHold x known = (o : WriteOrder) → Contains known o → Holds x o
 
 none_known : (x : Explanation) → AllHold x []
 none_known x o (i, lt, is) = omega (arith, lt)
 
-more_hold : (x : Explanation) (o : Order) (known : List Order) → Holds x o → AllHold x known
+more_hold : (x : Explanation) (o : WriteOrder) (known : List WriteOrder) → Holds x o → AllHold x known
     → AllHold x (known ++ o ∷ [])
 more_hold x o known one all p there = elim (Contains-push_cases known o p there) [
   | inl old ↦ all p old
@@ -44,8 +44,8 @@ more_hold x o known one all p there = elim (Contains-push_cases known o p there)
 ]
 
 -- one of the clause's orders holds
-abbrev pub OneHolds : Recording → Explanation → List Order → Type 0
-OneHolds r x clause = (o : Order) × Contains clause o × IsOrder r o × Holds x o
+abbrev pub OneHolds : Recording → Explanation → List WriteOrder → Type 0
+OneHolds r x clause = (o : WriteOrder) × Contains clause o × IsOrder r o × Holds x o
 
 -- of each lemma's clause one does
 abbrev pub AllSound : Recording → Explanation → List Lemma → Type 0
@@ -137,7 +137,7 @@ module _ (r : Recording) (table : List (Option Owner)) (owners : AreOwners r tab
   reader_of : (t k w : ℕ) → SawOf r t k w → IsTrue (x.committed t)
   reader_of t k w (xs, (p, span, (ok, act), of_key, iff), some, put) = e.ok t (is_one r t ok) ok
 
-  module _ (known : List Order) (hold : AllHold x known) where
+  module _ (known : List WriteOrder) (hold : AllHold x known) where
     ordered_of : (k t u : ℕ) → IsOrdered r known k t u
         → IsWriter r x t k × IsWriter r x u k × (x.commit t ≤ x.start u)
     ordered_of k t u (o, there, of_key, (ws, n, one), (vs, m, two)) =
@@ -149,7 +149,7 @@ module _ (r : Recording) (table : List (Option Owner)) (owners : AreOwners r tab
         let behind = train_back k vs m u o.second t two first 0 m (omega arith) upto in
         (first, train_from k vs m u o.second t two, subst (λ q. x.commit t ≤ x.start q) two.0 behind)
 
-    by_order : (edge : Edge) (t u : ℕ) (key : Option ℕ) → IsByOrder r known edge t u key
+    by_order : (edge : EdgeKind) (t u : ℕ) (key : Option ℕ) → IsByOrder r known edge t u key
         → IsTrue (x.committed t) × (IsTrue (x.committed u) → Leads x edge t u)
     by_order Ww t u (Some k) is =
         let so = ordered_of k t u is in
@@ -183,7 +183,7 @@ module _ (r : Recording) (table : List (Option Owner)) (owners : AreOwners r tab
     none_closes steps (round, forbids, all) = none_goes_round r table owners asked.orders x e asked.level serial steps
         (λ s there. held_of s (all s there)) round forbids
 
-  settled_holds : (known : List Order) → AllHold x known → (f : Settled) → IsSettledBy r asked known f
+  settled_holds : (known : List WriteOrder) → AllHold x known → (f : Settled) → IsSettledBy r asked known f
       → Holds x f.order
   settled_holds known hold f ((first, second, other), round) =
       elim (e.apart f.order.key f.order.first f.order.second
@@ -195,28 +195,30 @@ module _ (r : Recording) (table : List (Option Owner)) (owners : AreOwners r tab
       ]
 
   -- an order and its opposite do not both hold
-  never_both : (o : Order) → IsOrder r o → Holds x o → Holds x (opposite o) → ⊥
+  never_both : (o : WriteOrder) → IsOrder r o → Holds x o → Holds x (opposite o) → ⊥
   never_both o (first, second, other) so not =
       let a = e.above o.first (writer_of r table owners asked.orders x e o.first o.key first).0 in
       let b = e.above o.second (writer_of r table owners asked.orders x e o.second o.key second).0 in
       omega (arith, so, not, a, b)
 
-  unit_holds : (known clause : List Order) (o : Order) → AllHold x known → OneHolds r x clause → IsUnit known clause o
+  unit_holds : (known clause : List WriteOrder) (o : WriteOrder) → AllHold x known → OneHolds r x clause
+      → IsUnit known clause o
       → Holds x o
   unit_holds known clause o hold (p, there, order, so) unit = elim (unit p there) [
     | inl same ↦ subst (λ q. Holds x q) same so
     | inr other ↦ absurd (never_both p order so (hold (opposite p) other))
   ]
 
-  none_with : (lemmas : List Lemma) → AllSound r x lemmas → (known : List Order) → AllHold x known → (hints : List Hint)
+  none_with : (lemmas : List Lemma) → AllSound r x lemmas → (known : List WriteOrder) → AllHold x known
+      → (hints : List Hint)
       (round : List CycleStep) → ClosesBy r asked lemmas known hints round → ⊥
   none_with lemmas sound known hold [] round closes = none_closes known hold round closes
   none_with lemmas sound known hold (h ∷ hs) round ((l, at, unit), closes) =
       let so = unit_holds known l.clause.items h.order hold (sound l (there_by lemmas h.lemma l at)) unit in
       none_with lemmas sound (known ++ h.order ∷ []) (more_hold x h.order known so hold) hs round closes
 
-  clause_holds : (lemmas : List Lemma) → AllSound r x lemmas → (known : List Order) → AllHold x known
-      → (clause : List Order) (hints : List Hint) (round : List CycleStep)
+  clause_holds : (lemmas : List Lemma) → AllSound r x lemmas → (known : List WriteOrder) → AllHold x known
+      → (clause : List WriteOrder) (hints : List Hint) (round : List CycleStep)
       → IsClauseBy r asked lemmas known clause hints round → OneHolds r x clause
   clause_holds lemmas sound known hold [] hints round closes =
       absurd (none_with lemmas sound known hold hints round closes)
@@ -238,7 +240,7 @@ module _ (r : Recording) (table : List (Option Owner)) (owners : AreOwners r tab
     | inr new ↦ subst (λ (q : Lemma). OneHolds r x q.clause.items) new one
   ]
 
-  none_follows : (known : List Order) → AllHold x known → (before : List Lemma) → AllSound r x before
+  none_follows : (known : List WriteOrder) → AllHold x known → (before : List Lemma) → AllSound r x before
       → (lemmas : List Lemma) (hints : List Hint) (last : List CycleStep)
       → AreLemmasBy r asked known before lemmas hints last → ⊥
   none_follows known hold before sound [] hints last closes = none_with before sound known hold hints last closes
@@ -247,7 +249,7 @@ module _ (r : Recording) (table : List (Option Owner)) (owners : AreOwners r tab
       (more_sound l before (clause_holds before sound known hold l.clause.items l.hints.items l.round.items is) sound)
       ls hints last rest
 
-  none_explains : (known : List Order) → AllHold x known → (facts : List Settled) (all : Refutation)
+  none_explains : (known : List WriteOrder) → AllHold x known → (facts : List Settled) (all : Refutation)
       → IsRefutationBy r asked known facts all → ⊥
   none_explains known hold [] all rest =
       none_follows known hold [] (none_sound r x) all.lemmas.items all.hints.items all.last.items rest

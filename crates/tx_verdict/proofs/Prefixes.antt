@@ -6,7 +6,7 @@ use Rattle.std.proofs.lemmas.List.{get_or_append_left, append_assoc, append-nil,
 use Rattle.std.proofs.lemmas.List.Elements.{Contains-get_or, Contains-append_right}
 use Rattle.tx_recording.specs.declared.recording.Act.{Act}
 use Rattle.tx_recording.specs.declared.recording.Act.TheVariants.{Append, Write, Read}
-use Rattle.tx_recording.specs.declared.recording.Op.{Op}
+use Rattle.tx_recording.specs.declared.recording.RecordedOp.{RecordedOp}
 use Rattle.tx_recording.specs.declared.recording.Orders.{Orders}
 use Rattle.tx_recording.specs.declared.recording.Recording.{Recording}
 use Rattle.tx_recording.specs.Recordings.{ops_of, no_op}
@@ -16,14 +16,15 @@ use Rattle.tx_recording.proofs.Seen.{sees_unique}
 use Rattle.tx_verdict.specs.Facts.{AreLists}
 
 -- operations that write nothing in place of what there is
-abbrev Append_only : List Op → Type 0
-Append_only os = (o : Op) → Contains os o → (v : ℕ) → o.act ≡ Write v → ⊥
+abbrev Append_only : List RecordedOp → Type 0
+Append_only os = (o : RecordedOp) → Contains os o → (v : ℕ) → o.act ≡ Write v → ⊥
 
 -- they leave what there was, and more behind it
-abbrev AddsTo : List Op → ℕ → Type 0
+abbrev AddsTo : List RecordedOp → ℕ → Type 0
 AddsTo os k = (ys : List ℕ) × ((xs : List ℕ) → after os k xs ≡ xs ++ ys)
 
-head_adds : (o : Op) (os : List Op) (k : ℕ) (a : Act) → o.act ≡ a → o.key ≡ k → ((v : ℕ) → o.act ≡ Write v → ⊥)
+head_adds : (o : RecordedOp) (os : List RecordedOp) (k : ℕ) (a : Act) → o.act ≡ a → o.key ≡ k
+    → ((v : ℕ) → o.act ≡ Write v → ⊥)
     → AddsTo os k → AddsTo (o ∷ os) k
 head_adds o os k (Append w) is at none (ys, adds) = (
   w ∷ ys,
@@ -36,7 +37,7 @@ head_adds o os k (Read s) is at none (ys, adds) = (
   λ xs. after_same o os k xs at ∙ ap (λ b. after os k (act_on b xs)) is ∙ adds xs,
 )
 
-adds_to : (os : List Op) (k : ℕ) → Append_only os → AddsTo os k
+adds_to : (os : List RecordedOp) (k : ℕ) → Append_only os → AddsTo os k
 adds_to [] k only = ([], λ xs. sym (append-nil xs))
 adds_to (o ∷ os) k only =
     let rest = adds_to os k (λ q c. only q (Contains-append_right (o ∷ []) os q c)) in
@@ -48,7 +49,7 @@ adds_to (o ∷ os) k only =
 pub only_of : (r : Recording) → AreLists r → (t : ℕ) → Append_only (ops_of r t)
 only_of r lists t o (i, lt, is) v at =
     let same : op_at r t i ≡ o = get_or_default (ops_of r t) i no_op o lt ∙ is in
-    lists t i v (ap (λ (q : Op). q.act) same ∙ at)
+    lists t i v (ap (λ (q : RecordedOp). q.act) same ∙ at)
 
 module _ (r : Recording) (orders : Orders) (x : Explanation) (e : Explains r orders x) (lists : AreLists r) where
   -- what is seen of a key until its next writer commits

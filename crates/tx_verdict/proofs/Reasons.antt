@@ -3,9 +3,9 @@ use Rattle.std.proofs.Common.{◌≡◌, ℕ, ◌+◌, ◌-◌, ◌<◌, ◌≤�
 use Rattle.std.proofs.lemmas.Bool.{cases_lt}
 use Rattle.std.proofs.lemmas.List.{get_or_past, take_more, take_all}
 use Rattle.std.proofs.lemmas.List.Elements.{Contains-get_or}
-use Rattle.tx_recording.specs.declared.recording.Op.{Op}
+use Rattle.tx_recording.specs.declared.recording.RecordedOp.{RecordedOp}
 use Rattle.tx_recording.specs.declared.recording.Orders.{Orders}
-use Rattle.tx_recording.specs.declared.recording.Transaction.{Transaction}
+use Rattle.tx_recording.specs.declared.recording.RecordedTransaction.{RecordedTransaction}
 use Rattle.tx_recording.specs.declared.recording.Recording.{Recording}
 use Rattle.tx_recording.specs.Recordings.{txns_of, no_transaction, ops_of, list_of}
 use Rattle.tx_recording.specs.Explanations.{after, PutsIn, Explanation, IsWriter, IsNewest, Sees, Explains}
@@ -28,7 +28,7 @@ one_of : (r : Recording) (t p : ℕ) → p < length (ops_of r t) → t < txns_of
 one_of r t p lt = elim (cases_lt t (txns_of r)) [
   | inl below ↦ below
   | inr past ↦ absurd (
-      let e = ap (λ (q : Transaction). length (slice_range r.ops.items q.first q.upto))
+      let e = ap (λ (q : RecordedTransaction). length (slice_range r.ops.items q.first q.upto))
       (get_or_past r.transactions.items t no_transaction past) in
       omega (arith, lt, e)
       )
@@ -44,7 +44,8 @@ once_each r table owners t p q v a b put also =
     ap (λ (o : Owner). o.place) same
 
 -- the first value of an effect is put
-first_put : (os : List Op) (k y : ℕ) (f : Effect) → IsEffect os k f → f.clears ≡ false → 1 ≤ length f.values.items
+first_put : (os : List RecordedOp) (k y : ℕ) (f : Effect) → IsEffect os k f → f.clears ≡ false
+    → 1 ≤ length f.values.items
     → get_or f.values.items 0 0 ≡ y → PutsIn os k y
 first_put os k y f effect adds some first =
     let is : after os k [] ≡ f.values.items = effect [] ∙ appended f [] adds in

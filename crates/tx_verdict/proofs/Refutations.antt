@@ -3,7 +3,7 @@ use Rattle.std.proofs.Common.{◌≡◌, ◌⊎◌, ◌≢◌, ℕ, ◌+◌, ◌
 use Rattle.std.proofs.lemmas.Bool.{cases_Bool, false≢true}
 use Rattle.std.proofs.lemmas.List.{append_assoc}
 use Rattle.std.proofs.lemmas.List.Elements.{Contains-get_or}
-use Rattle.tx_recording.specs.declared.recording.Outcome.TheVariants.{Fail as Failed}
+use Rattle.tx_recording.specs.declared.recording.RecordedOutcome.TheVariants.{Fail as Failed}
 use Rattle.tx_recording.specs.declared.recording.Orders.{Orders}
 use Rattle.tx_recording.specs.declared.recording.Recording.{Recording}
 use Rattle.tx_recording.specs.Recordings.{list_of, transaction_at, ops_of}
@@ -11,7 +11,7 @@ use Rattle.tx_recording.specs.Explanations.{op_at, after, IsPut, ArePutOnce, Put
 use Rattle.tx_recording.proofs.Puts.{IsLast, last_unique, none_last}
 use Rattle.tx_recording.proofs.Seen.{seen_put, seen_last, sees_unique, writer_last}
 use Rattle.tx_views.specs.declared.owner.Owner.{Owner}
-use Rattle.tx_views.specs.declared.view.View.{View}
+use Rattle.tx_views.specs.declared.view.RecordedView.{RecordedView}
 use Rattle.tx_views.specs.Owners.{AreOwners, owner_at}
 use Rattle.tx_views.specs.Views.{Saw, IsViewOf, IsInternal}
 use Rattle.tx_views.proofs.ValueOwners.{put_by_owner}
@@ -22,7 +22,8 @@ use Rattle.tx_verdict.specs.Verdicts.{IsNever, IsWrong}
 use Rattle.tx_clock.proofs.ClockOrder.{is_one}
 use Rattle.tx_verdict.proofs.Views.{view_sees, owner_is, saw_value, owner_puts, nobody_puts}
 
-module _ (r : Recording) (table : List (Option Owner)) (owners : AreOwners r table) (v : View) (view : IsViewOf r v)
+module _ (r : Recording) (table : List (Option Owner)) (owners : AreOwners r table) (v : RecordedView)
+    (view : IsViewOf r v)
     (list : List ℕ)
     (is : list ≡ list_of r v.span) where
   -- who put a value that was seen
@@ -56,12 +57,13 @@ module _ (r : Recording) (table : List (Option Owner)) (owners : AreOwners r tab
       omega (arith, before, up, s)
 
 -- who has a view has committed
-pub ok_committed : (r : Recording) (orders : Orders) (x : Explanation) → Explains r orders x → (v : View) → IsViewOf r v
+pub ok_committed : (r : Recording) (orders : Orders) (x : Explanation) → Explains r orders x → (v : RecordedView)
+    → IsViewOf r v
     → IsTrue (x.committed v.txn)
 ok_committed r orders x e v (within, (p, span, (ok, act), of_key, iff)) = e.ok v.txn (is_one r v.txn ok) ok
 
 -- two views of one transaction and key differ
-pub unrepeatable : (r : Recording) (v w : View) → IsViewOf r v → IsViewOf r w → v.txn ≡ w.txn → v.key ≡ w.key
+pub unrepeatable : (r : Recording) (v w : RecordedView) → IsViewOf r v → IsViewOf r w → v.txn ≡ w.txn → v.key ≡ w.key
     → (list_of r w.span ≡ list_of r v.span → ⊥) → IsNever r
 unrepeatable r v w a b same_txn same_key ne orders x e =
     let P : ℕ → Type 0 = λ k. Sees r x k (x.start v.txn) (list_of r v.span) in
@@ -93,7 +95,8 @@ late r orders x e once k t u xs ys a (inr none) (inl (q, newest_q, is_q)) same l
 late r orders x e once k t u xs ys a (inr none) (inr also) same le = (let lt = also.0 t a in omega (arith, lt, le))
 
 -- two transactions that put into a key saw the same there
-pub lost_update : (r : Recording) (v w : View) → ArePutOnce r → IsViewOf r v → IsViewOf r w → (v.txn ≡ w.txn → ⊥)
+pub lost_update : (r : Recording) (v w : RecordedView) → ArePutOnce r → IsViewOf r v → IsViewOf r w
+    → (v.txn ≡ w.txn → ⊥)
     → v.key ≡ w.key
     → list_of r v.span ≡ list_of r w.span → ((a : ℕ) × PutsIn (ops_of r v.txn) v.key a)
     → ((a : ℕ) × PutsIn (ops_of r w.txn) w.key a) → IsNever r
@@ -115,7 +118,8 @@ internal_so : (r : Recording) (t p : ℕ) → IsInternal r t p → IsNever r
 internal_so r t p (span, (ok, act), none) orders x e = (let (xs, sees, is) = e.reads t p span ok act in none xs is)
 
 -- the facts of a value that was seen
-module _ (r : Recording) (table : List (Option Owner)) (owners : AreOwners r table) (v : View) (view : IsViewOf r v)
+module _ (r : Recording) (table : List (Option Owner)) (owners : AreOwners r table) (v : RecordedView)
+    (view : IsViewOf r v)
     (list : List ℕ)
     (is : list ≡ list_of r v.span) (i : ℕ) (lt : i < length list) (fact : Fact) where
   pub fact_unwritten : fact ≡ record {
@@ -151,7 +155,8 @@ module _ (r : Recording) (table : List (Option Owner)) (owners : AreOwners r tab
     itself r table owners v view list is i o lt by same,
   )
 
-pub fact_unrepeatable : (r : Recording) (v w : View) → IsViewOf r v → IsViewOf r w → v.txn ≡ w.txn → v.key ≡ w.key
+pub fact_unrepeatable : (r : Recording) (v w : RecordedView) → IsViewOf r v → IsViewOf r w → v.txn ≡ w.txn
+    → v.key ≡ w.key
     → (list_of r w.span ≡ list_of r v.span → ⊥)
     → IsWrong r record { rule = Unrepeatable; txn = w.txn; key = w.key; value = None; by = None }
 fact_unrepeatable r v w a b same_txn same_key ne =
@@ -161,7 +166,8 @@ fact_unrepeatable r v w a b same_txn same_key ne =
       unrepeatable r v w a b same_txn same_key ne,
     )
 
-pub fact_lost_update : (r : Recording) (v w : View) → ArePutOnce r → IsViewOf r v → IsViewOf r w → (v.txn ≡ w.txn → ⊥)
+pub fact_lost_update : (r : Recording) (v w : RecordedView) → ArePutOnce r → IsViewOf r v → IsViewOf r w
+    → (v.txn ≡ w.txn → ⊥)
     → v.key ≡ w.key
     → list_of r v.span ≡ list_of r w.span → ((a : ℕ) × PutsIn (ops_of r v.txn) v.key a)
     → ((a : ℕ) × PutsIn (ops_of r w.txn) w.key a)

@@ -12,8 +12,8 @@ use Rattle.tx_views.specs.declared.owner.Owner.{Owner}
 use Rattle.tx_views.specs.Owners.{AreOwners}
 use Rattle.tx_clock.proofs.ClockOrder.{is_one}
 use Rattle.tx_verdict.specs.declared.question.Question.{Question}
-use Rattle.tx_verdict.specs.declared.verdict.Edge.{Edge}
-use Rattle.tx_verdict.specs.declared.verdict.Edge.TheVariants.{Ww, Wr, Rw, So, Rt}
+use Rattle.tx_verdict.specs.declared.verdict.EdgeKind.{EdgeKind}
+use Rattle.tx_verdict.specs.declared.verdict.EdgeKind.TheVariants.{Ww, Wr, Rw, So, Rt}
 use Rattle.tx_verdict.specs.declared.verdict.CycleStep.{CycleStep}
 use Rattle.tx_verdict.specs.Steps.{IsEdgeOf, IsStep, AreSteps, AreRound, AreApart, AreOfTwo, Forbids, step_at}
 use Rattle.tx_verdict.specs.Questions.{IsSerial}
@@ -21,12 +21,12 @@ use Rattle.tx_verdict.specs.Verdicts.{IsRefused}
 use Rattle.tx_verdict.proofs.Reasons.{newest_of, writer_of, committed_of, behind_of, missed_of}
 
 -- by the edge: it starts before the other commits, or commits when that starts
-abbrev pub Leads : Explanation → Edge → ℕ → ℕ → Type 0
+abbrev pub Leads : Explanation → EdgeKind → ℕ → ℕ → Type 0
 Leads x Rw t u = x.start t < x.commit u
 Leads x _ t u = x.commit t ≤ x.start u
 
 -- by the edge: what lies at or below m lies at or below where the edge begins
-abbrev pub Reaches : Explanation → Edge → ℕ → ℕ → Type 0
+abbrev pub Reaches : Explanation → EdgeKind → ℕ → ℕ → Type 0
 Reaches x Rw t m = m ≤ x.start t
 Reaches x _ t m = m ≤ x.commit t
 
@@ -36,7 +36,7 @@ IsHeld x s = IsTrue (x.committed s.from) × (IsTrue (x.committed s.to) → Leads
 
 module _ (r : Recording) (table : List (Option Owner)) (owners : AreOwners r table) (orders : Orders) (x : Explanation)
     (e : Explains r orders x) where
-  from_commits : (edge : Edge) (t u : ℕ) (key : Option ℕ) → IsEdgeOf r orders edge t u key → IsTrue (x.committed t)
+  from_commits : (edge : EdgeKind) (t u : ℕ) (key : Option ℕ) → IsEdgeOf r orders edge t u key → IsTrue (x.committed t)
   from_commits Ww t u (Some k) (from, to, behind) = committed_of r table owners orders x e t from.0
   from_commits Wr t u (Some k) saw = (newest_of r table owners orders x e u k t saw).0.0
   from_commits Rw t u (Some k) (to, inl (p, span, (ok, act), of_key, iff)) = e.ok t (is_one r t ok) ok
@@ -50,7 +50,7 @@ module _ (r : Recording) (table : List (Option Owner)) (owners : AreOwners r tab
   from_commits So t u (Some k) is = absurd is
   from_commits Rt t u (Some k) is = absurd is
 
-  leads : (edge : Edge) (t u : ℕ) (key : Option ℕ) → IsEdgeOf r orders edge t u key → IsTrue (x.committed t)
+  leads : (edge : EdgeKind) (t u : ℕ) (key : Option ℕ) → IsEdgeOf r orders edge t u key → IsTrue (x.committed t)
       → IsTrue (x.committed u) → Leads x edge t u
   leads Ww t u (Some k) (from, to, behind) a b =
       behind_of r table owners orders x e k t u (writer_of r table owners orders x e u k to) behind
@@ -65,7 +65,7 @@ module _ (r : Recording) (table : List (Option Owner)) (owners : AreOwners r tab
   leads So t u (Some k) is a b = absurd is
   leads Rt t u (Some k) is a b = absurd is
 
-  both : (next : Edge) (u m : ℕ) → x.start u < x.commit u → m ≤ x.start u → Reaches x next u m
+  both : (next : EdgeKind) (u m : ℕ) → x.start u < x.commit u → m ≤ x.start u → Reaches x next u m
   both Rw u m above le = le
   both Ww u m above le = omega (arith, above, le)
   both Wr u m above le = omega (arith, above, le)
@@ -73,7 +73,7 @@ module _ (r : Recording) (table : List (Option Owner)) (owners : AreOwners r tab
   both Rt u m above le = omega (arith, above, le)
 
   -- over an edge
-  over : (edge next : Edge) (t u m : ℕ) → (edge ≡ Rw → next ≡ Rw → ⊥) → x.start u < x.commit u → Leads x edge t u
+  over : (edge next : EdgeKind) (t u m : ℕ) → (edge ≡ Rw → next ≡ Rw → ⊥) → x.start u < x.commit u → Leads x edge t u
       → Reaches x edge t m → Reaches x next u m
   over Rw Rw t u m apart above lead reach = absurd (apart refl refl)
   over Rw Ww t u m apart above lead reach = omega (arith, lead, reach)
@@ -86,21 +86,22 @@ module _ (r : Recording) (table : List (Option Owner)) (owners : AreOwners r tab
   over Rt next t u m apart above lead reach = both next u m above (omega (arith, lead, reach))
 
   -- none but rw begins at a commit
-  other : (edge : Edge) → (edge ≡ Rw) ⊎ ((t m : ℕ) → m ≤ x.commit t → Reaches x edge t m)
+  other : (edge : EdgeKind) → (edge ≡ Rw) ⊎ ((t m : ℕ) → m ≤ x.commit t → Reaches x edge t m)
   other Rw = inl refl
   other Ww = inr (λ t m le. le)
   other Wr = inr (λ t m le. le)
   other So = inr (λ t m le. le)
   other Rt = inr (λ t m le. le)
 
-  close_commit : (edge : Edge) (t u : ℕ) → x.start u < x.commit u → Leads x edge t u → Reaches x edge t (x.commit u) → ⊥
+  close_commit : (edge : EdgeKind) (t u : ℕ) → x.start u < x.commit u → Leads x edge t u
+      → Reaches x edge t (x.commit u) → ⊥
   close_commit Rw t u above lead reach = omega (arith, above, lead, reach)
   close_commit Ww t u above lead reach = omega (arith, above, lead, reach)
   close_commit Wr t u above lead reach = omega (arith, above, lead, reach)
   close_commit So t u above lead reach = omega (arith, above, lead, reach)
   close_commit Rt t u above lead reach = omega (arith, above, lead, reach)
 
-  close_start : (edge : Edge) (t u : ℕ) → (edge ≡ Rw → ⊥) → Leads x edge t u → Reaches x edge t (x.start u + 1) → ⊥
+  close_start : (edge : EdgeKind) (t u : ℕ) → (edge ≡ Rw → ⊥) → Leads x edge t u → Reaches x edge t (x.start u + 1) → ⊥
   close_start Rw t u not lead reach = not refl
   close_start Ww t u not lead reach = omega (arith, lead, reach)
   close_start Wr t u not lead reach = omega (arith, lead, reach)
@@ -167,7 +168,7 @@ module _ (r : Recording) (table : List (Option Owner)) (owners : AreOwners r tab
       | inr ne ↦ (
           let some = round.0 in
           let more : 0 + 1 < length steps = omega (arith, some, ne) in
-          let P : Edge → Type 0 = λ z. Leads x z (step_at steps 0).from (step_at steps (0 + 1)).from in
+          let P : EdgeKind → Type 0 = λ z. Leads x z (step_at steps 0).from (step_at steps (0 + 1)).from in
           let lead = subst P rw (lead_at 0 more) in
           let m = x.start (step_at steps 0).from + 1 in
           elim (other (step_at steps (0 + 1)).edge) [
@@ -198,7 +199,7 @@ module _ (r : Recording) (table : List (Option Owner)) (owners : AreOwners r tab
     there i lt = Contains-get_or steps i record { from = 0; edge = Ww; key = None; to = 0 } lt
 
     -- what lies at or below the start of one that commits lies below that of the other
-    over_serial : (edge : Edge) (t u : ℕ) → t ≢ u → IsTrue (x.committed t) → IsTrue (x.committed u)
+    over_serial : (edge : EdgeKind) (t u : ℕ) → t ≢ u → IsTrue (x.committed t) → IsTrue (x.committed u)
         → Leads x edge t u → x.start t < x.start u
     over_serial Rw t u differ a b lead =
         let above = e.above t a in

@@ -4,31 +4,31 @@ use Rattle.std.proofs.lemmas.Bool.{cases_Bool, cases_eq, cases_lt}
 use Rattle.std.proofs.lemmas.List.{get_or_read, get_or_default, get_or_past, length-take, length-drop, get_or-take, get_or-drop}
 use Rattle.std.proofs.lemmas.List.Elements.{Contains-get_or}
 use Rattle.tx_recording.specs.declared.recording.Act.TheVariants.{Append, Write}
-use Rattle.tx_recording.specs.declared.recording.Outcome.{Outcome}
+use Rattle.tx_recording.specs.declared.recording.RecordedOutcome.{RecordedOutcome}
 use Rattle.tx_recording.specs.declared.recording.Span.{Span}
-use Rattle.tx_recording.specs.declared.recording.Op.{Op}
-use Rattle.tx_recording.specs.declared.recording.Transaction.{Transaction}
+use Rattle.tx_recording.specs.declared.recording.RecordedOp.{RecordedOp}
+use Rattle.tx_recording.specs.declared.recording.RecordedTransaction.{RecordedTransaction}
 use Rattle.tx_recording.specs.declared.recording.Recording.{Recording}
 use Rattle.tx_recording.specs.Recordings.{txns_of, transaction_at, no_transaction, no_op, ops_of}
 use Rattle.tx_recording.specs.Explanations.{Puts, PutsIn}
 use Rattle.tx_views.specs.declared.effect.Effect.{Effect}
-use Rattle.tx_views.specs.declared.view.View.{View}
+use Rattle.tx_views.specs.declared.view.RecordedView.{RecordedView}
 use Rattle.tx_views.specs.Views.{left_by}
 use Rattle.tx_verdict.specs.declared.versions.Versions.{Versions}
 use Rattle.tx_verdict.specs.Versions.{text_in, live_of, IsPlaced}
 use Rattle.tx_verdict.specs.Facts.{AreLists}
 use Rattle.tx_verdict.proofs.Texts.{left_cleared, left_first}
 
-pub puts_at : (ops : List Op) (i k v : ℕ) → i < length ops → (get_or ops i no_op).key ≡ k
+pub puts_at : (ops : List RecordedOp) (i k v : ℕ) → i < length ops → (get_or ops i no_op).key ≡ k
     → Puts (get_or ops i no_op).act v
     → (w : ℕ) × PutsIn ops k w
 puts_at ops i k v lt e p = (v, (get_or ops i no_op, Contains-get_or ops i no_op lt, e, p))
 
-pub outcome_is : (r : Recording) (n : ℕ) (t : Transaction) (o : Outcome) → n < txns_of r
+pub outcome_is : (r : Recording) (n : ℕ) (t : RecordedTransaction) (o : RecordedOutcome) → n < txns_of r
     → t ≡ get_or r.transactions.items n t
     → t.outcome ≡ o → (transaction_at r n).outcome ≡ o
 outcome_is r n t o lt read is =
-    sym (ap (λ (q : Transaction). q.outcome) (get_or_read r.transactions.items n t lt read no_transaction)) ∙ is
+    sym (ap (λ (q : RecordedTransaction). q.outcome) (get_or_read r.transactions.items n t lt read no_transaction)) ∙ is
 
 pub live_is : (v : Versions) (n : ℕ) (b c : Bool) → n < length v.live.items → b ≡ get_or v.live.items n b → b ≡ c
     → live_of v n ≡ c
@@ -45,13 +45,13 @@ left_anew texts text before span e own is (inr none) ends same = elim (cases_Boo
 ]
 
 -- what each operation puts is part of a version
-pub placed_all : (v : Versions) (t : ℕ) (ops : List Op)
+pub placed_all : (v : Versions) (t : ℕ) (ops : List RecordedOp)
     → ((i w : ℕ) → i < length ops → Puts (get_or ops i no_op).act w → IsPlaced v t (get_or ops i no_op).key)
     → (k w : ℕ) → PutsIn ops k w → IsPlaced v t k
 placed_all v t ops all k w (o, (i, lt, is), of_key, put) =
     let at : get_or ops i no_op ≡ o = get_or_default ops i no_op o lt ∙ is in
-    let P : Op → Type 0 = λ q. Puts q.act w in
-    let Q : Op → Type 0 = λ q. IsPlaced v t q.key in
+    let P : RecordedOp → Type 0 = λ q. Puts q.act w in
+    let Q : RecordedOp → Type 0 = λ q. IsPlaced v t q.key in
     subst (λ z. IsPlaced v t z) of_key (subst Q at (all i w lt (subst P (sym at) put)))
 
 -- each element, by its place
@@ -72,7 +72,7 @@ same_act v e = (cc)
 pub lists_of : (r : Recording) → ((i v : ℕ) → i < length r.ops.items → (get_or r.ops.items i no_op).act ≡ Write v → ⊥)
     → AreLists r
 lists_of r none t p v is = elim (cases_lt p (length (ops_of r t))) [
-  | inr past ↦ same_act v (sym (ap (λ (o : Op). o.act) (get_or_past (ops_of r t) p no_op past)) ∙ is)
+  | inr past ↦ same_act v (sym (ap (λ (o : RecordedOp). o.act) (get_or_past (ops_of r t) p no_op past)) ∙ is)
   | inl lt ↦ (
       let first = (transaction_at r t).first in
       let upto = (transaction_at r t).upto in
@@ -82,6 +82,6 @@ lists_of r none t p v is = elim (cases_lt p (length (ops_of r t))) [
       let b : first + p < length r.ops.items = omega (arith, lt, n, m) in
       let at : get_or (ops_of r t) p no_op ≡ get_or r.ops.items (first + p) no_op =
       get_or-take (upto - first) (drop first r.ops.items) p no_op a ∙ get_or-drop first r.ops.items p no_op in
-      none (first + p) v b (sym (ap (λ (o : Op). o.act) at) ∙ is)
+      none (first + p) v b (sym (ap (λ (o : RecordedOp). o.act) at) ∙ is)
       )
 ]

@@ -2,12 +2,12 @@
 use Rattle.std.proofs.Common.{◌≡◌, ◌⊎◌, ℕ, ◌+◌, ◌-◌, ◌*◌, ◌<◌, ◌≤◌, Bool, true, false, List, length, Contains, arith, inl, inr, refl, sym, ap, ◌∙◌, subst, IsTrue, Option, slice_index, slice_index_or}
 use Rattle.std.proofs.lemmas.Bool.{cases_lt, false≢true}
 use Rattle.std.proofs.lemmas.List.{get_or_past}
-use Rattle.tx_recording.specs.declared.recording.Outcome.TheVariants.{Ok as Committed, Fail as Failed}
-use Rattle.tx_recording.specs.declared.recording.Transaction.{Transaction}
+use Rattle.tx_recording.specs.declared.recording.RecordedOutcome.TheVariants.{Ok as Committed, Fail as Failed}
+use Rattle.tx_recording.specs.declared.recording.RecordedTransaction.{RecordedTransaction}
 use Rattle.tx_recording.specs.declared.recording.Recording.{Recording}
 use Rattle.tx_recording.specs.Recordings.{txns_of, transaction_at, no_transaction, ops_of}
 use Rattle.tx_recording.specs.Explanations.{after, IsPut, Precedes}
-use Rattle.tx_views.specs.declared.view.View.{View}
+use Rattle.tx_views.specs.declared.view.RecordedView.{RecordedView}
 use Rattle.tx_views.specs.Views.{AreViews}
 use Rattle.tx_history.specs.declared.recorded.Read.{Read}
 use Rattle.tx_history.specs.Histories.{History, HasVersion, IsAssignment}
@@ -25,11 +25,11 @@ use Rattle.tx_verdict.proofs.Fits.{explains_so}
 use Rattle.tx_clock.specs.KeptOrder.{KeepsPairs}
 use Rattle.tx_verdict.specs.Reasons.{IsBehind}
 
-pub fit_of : (r : Recording) (views : List View) (v : Versions) → txns_of r ≤ v.recorded.txns
+pub fit_of : (r : Recording) (views : List RecordedView) (v : Versions) → txns_of r ≤ v.recorded.txns
     → ((t : ℕ) → t < txns_of r → (transaction_at r t).outcome ≡ Committed → IsTrue (live_of v t))
     → ((t : ℕ) → (transaction_at r t).outcome ≡ Failed → live_of v t ≡ false)
     → ((t k w : ℕ) → t < txns_of r → IsTrue (live_of v t) → IsPut r t k w → IsPlaced v t k)
-    → ((w : View) → Contains views w → IsViewFit r v w) → ((k : ℕ) → IsKeyFit r v k)
+    → ((w : RecordedView) → Contains views w → IsViewFit r v w) → ((k : ℕ) → IsKeyFit r v k)
     → IsFit r views (history_of v.recorded) (live_of v) (text_of v)
 fit_of r views v enough ok fail placed seen keys = record {
   txns = enough;
@@ -50,7 +50,7 @@ fit_of r views v enough ok fail placed seen keys = record {
       subst P back (subst Q (sym back) fit.2));
   placed = λ t k w live put. elim (cases_lt t (txns_of r)) [
     | inl lt ↦ placed t k w lt live put
-    | inr past ↦ absurd (false≢true (sym (fail t (ap (λ (q : Transaction). q.outcome)
+    | inr past ↦ absurd (false≢true (sym (fail t (ap (λ (q : RecordedTransaction). q.outcome)
         (get_or_past r.transactions.items t no_transaction past))) ∙ live))
   ];
   reads = seen;
@@ -75,7 +75,8 @@ forced_of r v chains reads = record {
   readers = λ p is. (reads p is).0;
 }
 
-pub timestamps_of : (r : Recording) (asked : Question) (views : List View) (v : Versions) (starts commits : List ℕ)
+pub timestamps_of : (r : Recording) (asked : Question) (views : List RecordedView) (v : Versions)
+    (starts commits : List ℕ)
     (t : Timestamps)
     → t.committed.items ≡ v.live.items → t.starts.items ≡ starts → t.commits.items ≡ commits → AreViews r views
     → IsFit r views (history_of v.recorded) (live_of v) (text_of v)

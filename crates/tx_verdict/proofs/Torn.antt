@@ -6,7 +6,7 @@ use Rattle.tx_recording.specs.declared.recording.Recording.{Recording}
 use Rattle.tx_recording.specs.Recordings.{list_of, ops_of}
 use Rattle.tx_recording.specs.Explanations.{after, Sees}
 use Rattle.tx_views.specs.declared.owner.Owner.{Owner}
-use Rattle.tx_views.specs.declared.view.View.{View}
+use Rattle.tx_views.specs.declared.view.RecordedView.{RecordedView}
 use Rattle.tx_views.specs.declared.effect.Effect.{Effect}
 use Rattle.tx_views.specs.Owners.{AreOwners, owner_at}
 use Rattle.tx_views.specs.Views.{Saw, IsViewOf, IsEffect, left_by}
@@ -88,7 +88,7 @@ torn_by r u k f xs i effect torn front rest is low lt =
     let e = effect front in
     torn front rest (is ∙ ap (λ q. q ++ rest) e) low (subst (λ q. i < length q) e lt)
 
-pub fact_torn : (r : Recording) (table : List (Option Owner)) → AreOwners r table → (v : View) → IsViewOf r v
+pub fact_torn : (r : Recording) (table : List (Option Owner)) → AreOwners r table → (v : RecordedView) → IsViewOf r v
     → (list : List ℕ)
     → list ≡ list_of r v.span → (i : ℕ) → i < length list → (o : Owner) → owner_at table (get_or list i 0) ≡ Some o
     → (f : Effect) → IsEffect (ops_of r o.txn) v.key f → IsTornBy list f i
@@ -107,7 +107,7 @@ fact_torn r table owners v view list is i lt o at f effect torn_list =
           torn front rest parts low below),
     )
 
-pub fact_twice : (r : Recording) (table : List (Option Owner)) → AreOwners r table → (v : View) → IsViewOf r v
+pub fact_twice : (r : Recording) (table : List (Option Owner)) → AreOwners r table → (v : RecordedView) → IsViewOf r v
     → (list : List ℕ)
     → list ≡ list_of r v.span → (i j : ℕ) → i < j → j < length list → get_or list i 0 ≡ get_or list j 0
     → IsWrong r record { rule = Duplicate; txn = v.txn; key = v.key; value = Some (get_or list j 0); by = None }
@@ -123,7 +123,7 @@ fact_twice r table owners v view list is i j lt within same =
           omega (arith, at, lt)),
     )
 
-pub fact_orders : (r : Recording) → AreLists r → (v w : View) → IsViewOf r v → IsViewOf r w → v.key ≡ w.key
+pub fact_orders : (r : Recording) → AreLists r → (v w : RecordedView) → IsViewOf r v → IsViewOf r w → v.key ≡ w.key
     → (xs ys : List ℕ)
     → xs ≡ list_of r v.span → ys ≡ list_of r w.span → (i : ℕ) → i < length xs → i < length ys
     → (get_or xs i 0 ≡ get_or ys i 0 → ⊥)

@@ -6,7 +6,7 @@ use Rattle.tx_recording.specs.declared.recording.Recording.{Recording}
 use Rattle.tx_recording.specs.Recordings.{list_of, txns_of, ops_of, no_op}
 use Rattle.tx_recording.specs.Explanations.{after, op_at, IsPut, Explanation, Sees, Explains}
 use Rattle.tx_views.specs.declared.owner.Owner.{Owner}
-use Rattle.tx_views.specs.declared.view.View.{View}
+use Rattle.tx_views.specs.declared.view.RecordedView.{RecordedView}
 use Rattle.tx_views.specs.Owners.{AreOwners, owner_at}
 use Rattle.tx_views.specs.Views.{Saw, IsViewOf}
 use Rattle.tx_views.proofs.ValueOwners.{put_by_owner}
@@ -15,7 +15,8 @@ use Rattle.tx_verdict.specs.Reasons.{SawOf, HasCommitted}
 use Rattle.tx_clock.proofs.ClockOrder.{is_one}
 
 -- what a view says its transaction saw, it saw
-pub view_sees : (r : Recording) (orders : Orders) (x : Explanation) → Explains r orders x → (v : View) → IsViewOf r v
+pub view_sees : (r : Recording) (orders : Orders) (x : Explanation) → Explains r orders x → (v : RecordedView)
+    → IsViewOf r v
     → Sees r x v.key (x.start v.txn) (list_of r v.span)
 view_sees r orders x e v (within, (p, span, (ok, act), of_key, iff)) =
     let (xs, sees, is) = e.reads v.txn p span ok act in
@@ -34,7 +35,7 @@ owner_is r table t k v o owners put at =
     ap (λ (q : Owner). q.txn) same
 
 -- a value of a view was seen
-pub saw_value : (r : Recording) (v : View) → IsViewOf r v → (list : List ℕ) → list ≡ list_of r v.span → (i : ℕ)
+pub saw_value : (r : Recording) (v : RecordedView) → IsViewOf r v → (list : List ℕ) → list ≡ list_of r v.span → (i : ℕ)
     → i < length list
     → SawValue r v.txn v.key (get_or list i 0)
 saw_value r v view list is i lt =
@@ -56,7 +57,7 @@ owner_puts r table owners v o at =
     )
 
 -- what a view says was seen
-pub view_saw : (r : Recording) (v : View) (list : List ℕ) (txn k : ℕ) → IsViewOf r v → v.txn ≡ txn → v.key ≡ k
+pub view_saw : (r : Recording) (v : RecordedView) (list : List ℕ) (txn k : ℕ) → IsViewOf r v → v.txn ≡ txn → v.key ≡ k
     → list ≡ list_of r v.span
     → Saw r txn k list
 view_saw r v list txn k view of_txn of_key is =
@@ -66,7 +67,7 @@ view_saw r v list txn k view of_txn of_key is =
     subst R (sym is) (subst Q of_key (subst P of_txn view.1))
 
 -- the view ends in a value of the writer
-pub saw_of : (r : Recording) (table : List (Option Owner)) (v : View) (list : List ℕ) (txn k writer : ℕ)
+pub saw_of : (r : Recording) (table : List (Option Owner)) (v : RecordedView) (list : List ℕ) (txn k writer : ℕ)
     → AreOwners r table
     → IsViewOf r v → v.txn ≡ txn → v.key ≡ k → list ≡ list_of r v.span → (length list ≡ 0 → ⊥)
     → ((o : Owner) × (owner_at table (get_or list (length list - 1) 0) ≡ Some o) × (o.txn ≡ writer))
@@ -80,7 +81,8 @@ saw_of r table v list txn k writer owners view of_txn of_key is some (o, at, by)
 )
 
 -- the view is empty
-pub saw_nothing : (r : Recording) (v : View) (txn k : ℕ) → IsViewOf r v → v.txn ≡ txn → v.key ≡ k → v.span.count ≡ 0
+pub saw_nothing : (r : Recording) (v : RecordedView) (txn k : ℕ) → IsViewOf r v → v.txn ≡ txn → v.key ≡ k
+    → v.span.count ≡ 0
     → Saw r txn k []
 saw_nothing r v txn k view of_txn of_key none =
     let n : v.span.first + v.span.count - v.span.first ≡ 0 = omega (arith, none) in
@@ -88,7 +90,8 @@ saw_nothing r v txn k view of_txn of_key none =
     view_saw r v [] txn k view of_txn of_key (sym empty)
 
 -- who put a value that was seen has committed
-pub shown_by : (r : Recording) (table : List (Option Owner)) (v : View) (list : List ℕ) (i txn : ℕ) → AreOwners r table
+pub shown_by : (r : Recording) (table : List (Option Owner)) (v : RecordedView) (list : List ℕ) (i txn : ℕ)
+    → AreOwners r table
     → IsViewOf r v → list ≡ list_of r v.span → i < length list
     → ((o : Owner) × (owner_at table (get_or list i 0) ≡ Some o) × (o.txn ≡ txn))
     → HasCommitted r txn
@@ -108,5 +111,5 @@ nobody_puts r table owners v none u (l, put) =
     none record { txn = u; place = p } at
 
 -- a view is of one of the transactions
-pub view_within : (r : Recording) (v : View) → IsViewOf r v → v.txn < txns_of r
+pub view_within : (r : Recording) (v : RecordedView) → IsViewOf r v → v.txn < txns_of r
 view_within r v (within, (p, span, (ok, act), of_key, iff)) = is_one r v.txn ok

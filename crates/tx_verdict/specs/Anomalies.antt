@@ -1,17 +1,17 @@
 -- What the name of a cycle says of its steps: they have one name each.
 use Rattle.std.specs.Prelude.{◌≡◌, ℕ, ◌≤◌, Bool, true, false, List, length, count_by}
-use Rattle.tx_verdict.specs.declared.verdict.Edge.{Edge}
-use Rattle.tx_verdict.specs.declared.verdict.Edge.TheVariants.{Wr, Rw}
+use Rattle.tx_verdict.specs.declared.verdict.EdgeKind.{EdgeKind}
+use Rattle.tx_verdict.specs.declared.verdict.EdgeKind.TheVariants.{Wr, Rw}
 use Rattle.tx_verdict.specs.declared.verdict.CycleStep.{CycleStep}
 use Rattle.tx_verdict.specs.declared.anomaly.Anomaly.{Anomaly}
 use Rattle.tx_verdict.specs.declared.anomaly.Anomaly.TheVariants.{G0, G1c, LostUpdate, GSingle, LongFork, GNonadjacent, G2Item}
 use Rattle.tx_verdict.specs.Steps.{AreApart, step_at}
 
-abbrev pub is_rw_edge : Edge → Bool
+abbrev pub is_rw_edge : EdgeKind → Bool
 is_rw_edge Rw = true
 is_rw_edge _ = false
 
-abbrev pub is_wr_edge : Edge → Bool
+abbrev pub is_wr_edge : EdgeKind → Bool
 is_wr_edge Wr = true
 is_wr_edge _ = false
 

@@ -1,7 +1,7 @@
 -- What a fact says of a recording.
 use Rattle.std.specs.Prelude.{◌≡◌, ◌≢◌, ℕ, ◌<◌, ◌≤◌, List, ◌++◌, length, Contains, Option, Some, None, slice_index}
 use Rattle.tx_recording.specs.declared.recording.Act.TheVariants.{Write}
-use Rattle.tx_recording.specs.declared.recording.Outcome.TheVariants.{Fail}
+use Rattle.tx_recording.specs.declared.recording.RecordedOutcome.TheVariants.{Fail}
 use Rattle.tx_recording.specs.declared.recording.Recording.{Recording}
 use Rattle.tx_recording.specs.Recordings.{transaction_at, ops_of}
 use Rattle.tx_recording.specs.Explanations.{after, op_at, IsPut}

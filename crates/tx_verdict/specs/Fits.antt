@@ -1,17 +1,17 @@
 -- When timestamps of a history explain a recording. Only this crate's own clauses cite it.
 use Rattle.std.specs.Prelude.{◌≡◌, ◌≢◌, ◌⊎◌, ℕ, ◌+◌, ◌<◌, ◌≤◌, ◌==◌, Bool, false, cond, List, [], Contains, IsTrue, zero, suc, slice_index}
-use Rattle.tx_recording.specs.declared.recording.Outcome.TheVariants.{Ok, Fail}
+use Rattle.tx_recording.specs.declared.recording.RecordedOutcome.TheVariants.{Ok, Fail}
 use Rattle.tx_recording.specs.declared.recording.Recording.{Recording}
 use Rattle.tx_recording.specs.Recordings.{txns_of, transaction_at, ops_of, list_of}
 use Rattle.tx_recording.specs.Explanations.{after, IsPut, Explanation}
-use Rattle.tx_views.specs.declared.view.View.{View}
+use Rattle.tx_views.specs.declared.view.RecordedView.{RecordedView}
 use Rattle.tx_history.specs.Histories.{History, HasVersion}
 use Rattle.tx_clock.specs.KeptOrder.{live_in}
 
 -- The history is the recording's where the live transactions committed: each version is what its
 -- writer makes of the version before it, who puts into a key wrote a version of it, and what was
 -- seen is the version that was read.
-pub record IsFit (r : Recording) (views : List View) (h : History) (live : ℕ → Bool)
+pub record IsFit (r : Recording) (views : List RecordedView) (h : History) (live : ℕ → Bool)
     (text : ℕ → ℕ → List ℕ) : Type 0 where
   pub txns : txns_of r ≤ h.txns
   pub ok : (t : ℕ) → t < txns_of r → (transaction_at r t).outcome ≡ Ok → IsTrue (live t)
@@ -21,7 +21,7 @@ pub record IsFit (r : Recording) (views : List View) (h : History) (live : ℕ �
   pub leaves : (k i : ℕ) → HasVersion h k (i + 1)
       → text k (i + 1) ≡ after (ops_of r (h.writer k (i + 1))) k (text k i)
   pub placed : (t k v : ℕ) → IsTrue (live t) → IsPut r t k v → (i : ℕ) × HasVersion h k i × (h.writer k i ≡ t)
-  pub reads : (v : View) → Contains views v → (i : ℕ) × (i ≤ h.count v.key)
+  pub reads : (v : RecordedView) → Contains views v → (i : ℕ) × (i ≤ h.count v.key)
       × Contains h.reads record { txn = v.txn; key = v.key; version = i } × (list_of r v.span ≡ text v.key i)
 
 -- of two live ones one starts when the other has committed

@@ -1,6 +1,6 @@
 -- When transactions begin and end. Only this crate's own clauses cite it.
 use Rattle.std.specs.Prelude.{◌≡◌, ℕ, ◌<◌, Some}
-use Rattle.tx_recording.specs.declared.recording.Outcome.TheVariants.{Ok}
+use Rattle.tx_recording.specs.declared.recording.RecordedOutcome.TheVariants.{Ok}
 use Rattle.tx_recording.specs.declared.recording.Recording.{Recording}
 use Rattle.tx_recording.specs.Recordings.{txns_of, transaction_at}
 

@@ -1,7 +1,7 @@
 -- What reads say of who put into a key, and in which order: by the recording alone.
 use Rattle.std.specs.Prelude.{◌≡◌, ◌≢◌, ◌⊎◌, ℕ, ◌+◌, ◌-◌, ◌<◌, ◌≤◌, List, [], length, false, zero, suc, slice_index}
-use Rattle.tx_recording.specs.declared.recording.Outcome.TheVariants.{Ok}
-use Rattle.tx_recording.specs.declared.recording.Op.{Op}
+use Rattle.tx_recording.specs.declared.recording.RecordedOutcome.TheVariants.{Ok}
+use Rattle.tx_recording.specs.declared.recording.RecordedOp.{RecordedOp}
 use Rattle.tx_recording.specs.declared.recording.Recording.{Recording}
 use Rattle.tx_recording.specs.Recordings.{transaction_at, ops_of}
 use Rattle.tx_recording.specs.Explanations.{IsPut}
@@ -23,7 +23,7 @@ abbrev pub HasWritten : Recording → ℕ → ℕ → Type 0
 HasWritten r t k = HasCommitted r t × ((v : ℕ) × IsPut r t k v)
 
 -- the operations put values behind those of the key, and this one first
-abbrev pub AddsFirst : List Op → ℕ → ℕ → Type 0
+abbrev pub AddsFirst : List RecordedOp → ℕ → ℕ → Type 0
 AddsFirst os k y = (f : Effect) × IsEffect os k f × (f.clears ≡ false)
     × (1 ≤ length f.values.items) × (slice_index f.values.items 0 ≡ y)
 

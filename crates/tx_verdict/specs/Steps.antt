@@ -5,10 +5,10 @@ use Rattle.tx_verdict.specs.declared.question.Level.TheVariants.{Snapshot, Seria
 use Rattle.tx_recording.specs.declared.recording.Orders.{Orders}
 use Rattle.tx_recording.specs.declared.recording.Recording.{Recording}
 use Rattle.tx_recording.specs.Explanations.{IsSession, IsEarlier}
-use Rattle.tx_history.specs.declared.dependency.Kind.{Kind}
-use Rattle.tx_history.specs.declared.dependency.Kind.TheVariants as kind
-use Rattle.tx_verdict.specs.declared.verdict.Edge.{Edge}
-use Rattle.tx_verdict.specs.declared.verdict.Edge.TheVariants.{Ww, Wr, Rw, So, Rt}
+use Rattle.tx_history.specs.declared.dependency.DependencyKind.{DependencyKind}
+use Rattle.tx_history.specs.declared.dependency.DependencyKind.TheVariants as kind
+use Rattle.tx_verdict.specs.declared.verdict.EdgeKind.{EdgeKind}
+use Rattle.tx_verdict.specs.declared.verdict.EdgeKind.TheVariants.{Ww, Wr, Rw, So, Rt}
 use Rattle.tx_verdict.specs.declared.verdict.CycleStep.{CycleStep}
 use Rattle.tx_verdict.specs.declared.verdict.Beside.{Beside}
 use Rattle.tx_verdict.specs.declared.verdict.Beside.TheVariants.{Nothing, Processes, Clock}
@@ -16,7 +16,7 @@ use Rattle.tx_verdict.specs.Reasons.{SawOf, HasWritten, IsBehind, HasMissed}
 
 -- Both wrote k, and u behind t; u saw k as t left it; u wrote k, and t did not see that; a process
 -- ran u after t; t had ended when u began, which is another one.
-abbrev pub IsEdgeOf : Recording → Orders → Edge → ℕ → ℕ → Option ℕ → Type 0
+abbrev pub IsEdgeOf : Recording → Orders → EdgeKind → ℕ → ℕ → Option ℕ → Type 0
 IsEdgeOf r orders Ww t u (Some k) = HasWritten r t k × HasWritten r u k × IsBehind r k t u
 IsEdgeOf r orders Wr t u (Some k) = SawOf r u k t
 IsEdgeOf r orders Rw t u (Some k) = HasWritten r u k × HasMissed r k t u
@@ -25,7 +25,7 @@ IsEdgeOf r orders Rt t u None = IsTrue orders.strict × IsEarlier r t u × (t �
 IsEdgeOf r orders _ t u _ = ⊥
 
 -- the edge of a dependency by reads and writes
-abbrev pub IsEdgeFor : Kind → Edge → Type 0
+abbrev pub IsEdgeFor : DependencyKind → EdgeKind → Type 0
 IsEdgeFor kind.Ww e = e ≡ Ww
 IsEdgeFor kind.Wr e = e ≡ Wr
 IsEdgeFor kind.Rw e = e ≡ Rw
@@ -63,7 +63,7 @@ Forbids Snapshot steps = AreApart steps
 Forbids Serializable steps = AreOfTwo steps
 
 -- one of the steps is of that kind
-abbrev pub HasStep : List CycleStep → Edge → Type 0
+abbrev pub HasStep : List CycleStep → EdgeKind → Type 0
 HasStep steps e = (s : CycleStep) × Contains steps s × (s.edge ≡ e)
 
 -- which order the steps need: that of the clock where one of them is by it, else that of processes

@@ -1,13 +1,13 @@
 -- Keys of which two puts may have come in two orders.
 use Rattle.std.specs.Prelude.{◌≡◌, ◌≢◌, ◌⊎◌, ℕ, ◌<◌, List, length, Contains, slice_index_or}
-use Rattle.tx_recording.specs.declared.recording.Outcome.TheVariants.{Ok, Info}
-use Rattle.tx_recording.specs.declared.recording.Op.{Op}
+use Rattle.tx_recording.specs.declared.recording.RecordedOutcome.TheVariants.{Ok, Info}
+use Rattle.tx_recording.specs.declared.recording.RecordedOp.{RecordedOp}
 use Rattle.tx_recording.specs.declared.recording.Recording.{Recording}
 use Rattle.tx_recording.specs.Recordings.{transaction_at, ops_of, no_op}
 use Rattle.tx_recording.specs.Explanations.{Puts, IsPut}
 
 -- the first of the operations on k puts into it
-abbrev pub PutsFirst : List Op → ℕ → Type 0
+abbrev pub PutsFirst : List RecordedOp → ℕ → Type 0
 PutsFirst os k = (p : ℕ) × (v : ℕ) × (p < length os) × ((slice_index_or os p no_op).key ≡ k)
     × Puts (slice_index_or os p no_op).act v × ((q : ℕ) → q < p → (slice_index_or os q no_op).key ≢ k)
 

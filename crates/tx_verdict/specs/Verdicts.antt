@@ -7,8 +7,8 @@ use Rattle.tx_views.specs.Owners.{IsTwice}
 use Rattle.tx_verdict.specs.declared.question.Question.{Question}
 use Rattle.tx_verdict.specs.declared.verdict.Fact.{Fact}
 use Rattle.tx_verdict.specs.declared.verdict.Timestamps.{Timestamps}
-use Rattle.tx_verdict.specs.declared.verdict.Verdict.{Verdict}
-use Rattle.tx_verdict.specs.declared.verdict.Verdict.TheVariants.{Yes, No, Refuted, Fact as Found, Open, Unknown, Twice}
+use Rattle.tx_verdict.specs.declared.verdict.HistoryVerdict.{HistoryVerdict}
+use Rattle.tx_verdict.specs.declared.verdict.HistoryVerdict.TheVariants.{Yes, No, Refuted, Fact as Found, Open, Unknown, Twice}
 use Rattle.tx_verdict.specs.Facts.{IsFact}
 use Rattle.tx_verdict.specs.Questions.{ExplainsAt}
 use Rattle.tx_verdict.specs.Cycles.{IsCycleFor}
@@ -42,7 +42,7 @@ IsWrong r fact = IsFact r fact × IsNever r
 -- which there is one, that had not read it; unknown: nothing is said; twice: the first put the
 -- value before the second
 -- did
-abbrev pub IsVerdict : Recording → Question → Verdict → Type 0
+abbrev pub IsVerdict : Recording → Question → HistoryVerdict → Type 0
 IsVerdict r asked (Yes t) = AreTimestampsOf r asked t
 IsVerdict r asked (No cycle) = IsCycleFor r asked cycle × IsRefused r asked
 IsVerdict r asked (Refuted x) = IsRefutation r asked x × IsRefused r asked

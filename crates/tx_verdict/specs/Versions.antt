@@ -4,7 +4,7 @@ use Rattle.tx_recording.specs.declared.recording.Span.{Span}
 use Rattle.tx_recording.specs.declared.recording.Recording.{Recording}
 use Rattle.tx_recording.specs.Recordings.{ops_of, list_of}
 use Rattle.tx_recording.specs.Explanations.{after, IsPut}
-use Rattle.tx_views.specs.declared.view.View.{View}
+use Rattle.tx_views.specs.declared.view.RecordedView.{RecordedView}
 use Rattle.tx_history.specs.Histories.{HasVersion}
 use Rattle.tx_history.specs.Records.{history_of, writers_of}
 use Rattle.tx_clock.specs.KeptOrder.{live_in}
@@ -42,10 +42,10 @@ abbrev pub IsPlaced : Versions → ℕ → ℕ → Type 0
 IsPlaced v t k = (i : ℕ) × HasVersion (history_of v.recorded) k i × ((history_of v.recorded).writer k i ≡ t)
 
 -- what was seen is the version that was read
-abbrev pub IsViewFit : Recording → Versions → View → Type 0
+abbrev pub IsViewFit : Recording → Versions → RecordedView → Type 0
 IsViewFit r v w = (i : ℕ) × (i ≤ length (writers_of v.recorded w.key))
     × Contains v.recorded.reads.items record { txn = w.txn; key = w.key; version = i }
     × (list_of r w.span ≡ text_of v w.key i)
 
-abbrev pub no_view : View
+abbrev pub no_view : RecordedView
 no_view = record { txn = 0; key = 0; span = no_span }

@@ -3,7 +3,7 @@ ghost use Rattle.std.specs.Prelude.{◌≡◌, ◌≤◌, ◌↔◌, Option, IsT
 ghost use Rattle.tx_verdict.specs.Anomalies.{IsNamed, is_rw, is_wr, skews_of, reads_of};
 
 use crate::steps::are_apart;
-use crate::verdict::{CycleStep, Edge};
+use crate::verdict::{CycleStep, EdgeKind};
 
 /// The anomaly of a cycle, by Adya's names.
 #[derive(Clone, Copy, Debug, PartialEq, Eq)]
@@ -29,8 +29,8 @@ fn is_rw(step: &CycleStep) -> bool
     ensures { result ≡ is_rw step.now }
 {
     match step.edge {
-        Edge::Rw => true,
-        Edge::Ww | Edge::Wr | Edge::So | Edge::Rt => false,
+        EdgeKind::Rw => true,
+        EdgeKind::Ww | EdgeKind::Wr | EdgeKind::So | EdgeKind::Rt => false,
     }
 }
 
@@ -39,8 +39,8 @@ fn is_wr(step: &CycleStep) -> bool
     ensures { result ≡ is_wr step.now }
 {
     match step.edge {
-        Edge::Wr => true,
-        Edge::Ww | Edge::Rw | Edge::So | Edge::Rt => false,
+        EdgeKind::Wr => true,
+        EdgeKind::Ww | EdgeKind::Rw | EdgeKind::So | EdgeKind::Rt => false,
     }
 }
 

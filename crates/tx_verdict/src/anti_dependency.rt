@@ -3,7 +3,7 @@ ghost use Rattle.std.specs.Prelude.{IfSome, IsTrue};
 ghost use Rattle.tx_history.specs.Dependencies.{Depends, IsNext};
 ghost use Rattle.tx_history.specs.Records.{IsRecorded, history_of};
 
-use tx_history::{Dependency, Kind, Read, Recorded};
+use tx_history::{Dependency, DependencyKind, Read, Recorded};
 
 // Whether this is a read of one transaction, of the version before one that another wrote.
 fn is_before(writers: &[u32], read: Read, from: u32, to: u32) -> bool
@@ -26,7 +26,7 @@ pub(crate) fn anti_dependency(recorded: &Recorded, from: u32, to: u32) -> Option
         let writers = recorded.writers_of(read.key as usize);
         if is_before(writers, read, from, to) {
             return Some(Dependency {
-                kind: Kind::Rw,
+                kind: DependencyKind::Rw,
                 from,
                 to,
                 key: read.key as usize,

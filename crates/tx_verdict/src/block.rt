@@ -10,7 +10,7 @@ use crate::owners::owner_of;
 use crate::verdict::{Fact, Rule};
 use std::alloc::{AllocError, Global};
 use tx_recording::Recording;
-use tx_views::{Effect, Owner, View, effect_of};
+use tx_views::{Effect, Owner, RecordedView, effect_of};
 
 // The first place of a value.
 fn place_in(values: &[u32], value: u32) -> Option<usize>
@@ -58,7 +58,7 @@ pub(crate) fn wrong_block(
     alloc: Global,
     recording: &Recording,
     owners: &[Option<Owner>],
-    view: View,
+    view: RecordedView,
     list: &[u32],
     i: usize,
 ) -> Result<Option<Fact>, AllocError>

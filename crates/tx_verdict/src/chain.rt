@@ -1,7 +1,7 @@
 //! Whether the versions of a chain are known to be committed one after the other.
 ghost use Rattle.std.specs.Prelude.{◌≡◌, ◌≢◌, ◌⊎◌, ℕ, ◌+◌, ◌<◌, ◌≤◌, length, Contains, ◌&&◌, IfOk, IsTrue, slice_index};
 ghost use Rattle.tx_recording.specs.Recordings.{IsRecording};
-ghost use Rattle.tx_views.specs.declared.view.View.{View};
+ghost use Rattle.tx_views.specs.declared.view.RecordedView.{RecordedView};
 ghost use Rattle.tx_views.specs.Views.{IsViewOf};
 ghost use Rattle.tx_views.specs.Owners.{AreOwners};
 ghost use Rattle.tx_history.specs.Records.{IsRecorded, writers_of};
@@ -11,11 +11,11 @@ ghost use Rattle.tx_verdict.specs.Forced.{IsLinked, AreWriters};
 use crate::owners::{is_by, sees_nothing, sees_writer};
 use crate::versions::{Base, Versions};
 use std::alloc::{AllocError, Global};
-use tx_recording::{Op, Recording};
-use tx_views::{Owner, View, effect_of};
+use tx_recording::{RecordedOp, Recording};
+use tx_views::{Owner, RecordedView, effect_of};
 
 // Whether operations append to a key, and this value first.
-fn is_first(alloc: Global, ops: &[Op], key: u32, value: u32) -> Result<bool, AllocError>
+fn is_first(alloc: Global, ops: &[RecordedOp], key: u32, value: u32) -> Result<bool, AllocError>
     ensures { IfOk result (λ is. IsTrue is → AddsFirst ops.now key value) }
 {
     let effect = effect_of(alloc, ops, key)?;
@@ -35,7 +35,7 @@ fn is_within(
     alloc: Global,
     recording: &Recording,
     owners: &[Option<Owner>],
-    view: View,
+    view: RecordedView,
     place: usize,
     key: u32,
     writers: &[u32],
@@ -75,7 +75,7 @@ fn is_within(
 fn is_viewed(
     recording: &Recording,
     owners: &[Option<Owner>],
-    view: View,
+    view: RecordedView,
     key: u32,
     writers: &[u32],
     i: usize,
@@ -97,7 +97,7 @@ pub(crate) fn is_based(
     alloc: Global,
     recording: &Recording,
     owners: &[Option<Owner>],
-    views: &[View],
+    views: &[RecordedView],
     base: Base,
     key: u32,
     writers: &[u32],
@@ -105,7 +105,7 @@ pub(crate) fn is_based(
 ) -> Result<bool, AllocError>
     requires recording { IsRecording recording.now }
     requires owners { AreOwners recording.now owners.now }
-    requires views { (v : View) → Contains views.now v → IsViewOf recording.now v }
+    requires views { (v : RecordedView) → Contains views.now v → IsViewOf recording.now v }
     requires within { i < length writers.now }
     ensures { IfOk result (λ is. IsTrue is → IsBased recording.now key writers.now i) }
 {
@@ -174,14 +174,14 @@ pub(crate) fn is_chain(
     alloc: Global,
     recording: &Recording,
     owners: &[Option<Owner>],
-    views: &[View],
+    views: &[RecordedView],
     versions: &Versions,
     chain: u32,
     key: u32,
 ) -> Result<bool, AllocError>
     requires recording { IsRecording recording.now }
     requires owners { AreOwners recording.now owners.now }
-    requires views { (v : View) → Contains views.now v → IsViewOf recording.now v }
+    requires views { (v : RecordedView) → Contains views.now v → IsViewOf recording.now v }
     requires history { IsRecorded versions.now.recorded }
     requires writers { AreWriters recording.now key (writers_of versions.now.recorded chain) }
     ensures { IfOk result (λ is. IsTrue is → (i : ℕ) → i + 1 < length (writers_of versions.now.recorded chain)

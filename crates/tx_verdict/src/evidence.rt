@@ -21,13 +21,13 @@ use std::alloc::{AllocError, Global};
 use tx_clock::keeps_orders;
 use tx_history::dependencies;
 use tx_recording::Recording;
-use tx_views::{Owner, View};
+use tx_views::{Owner, RecordedView};
 
 /// What the timestamps of versions are for the recording, if they are.
 pub fn timestamps(
     alloc: Global,
     recording: &Recording,
-    views: &[View],
+    views: &[RecordedView],
     question: Question,
     versions: Versions,
     starts: Vec<usize>,
@@ -70,7 +70,7 @@ pub fn cycle_of(
     alloc: Global,
     recording: &Recording,
     owners: &[Option<Owner>],
-    views: &[View],
+    views: &[RecordedView],
     question: Question,
     versions: &Versions,
     nodes: &[u32],

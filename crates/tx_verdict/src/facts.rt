@@ -1,9 +1,9 @@
 //! What one transaction saw that nothing explains.
 ghost use Rattle.std.specs.Prelude.{◌≡◌, ℕ, ◌<◌, length, Contains, Some, IfOk, IfSome, IsTrue};
-ghost use Rattle.tx_recording.specs.declared.recording.Outcome.TheVariants.{Fail as Failed};
+ghost use Rattle.tx_recording.specs.declared.recording.RecordedOutcome.TheVariants.{Fail as Failed};
 ghost use Rattle.tx_recording.specs.Recordings.{IsRecording, transaction_at, ops_of, list_of};
 ghost use Rattle.tx_recording.specs.Explanations.{PutsIn};
-ghost use Rattle.tx_views.specs.declared.view.View.{View};
+ghost use Rattle.tx_views.specs.declared.view.RecordedView.{RecordedView};
 ghost use Rattle.tx_views.specs.Views.{IsInternal, IsViewOf};
 ghost use Rattle.tx_views.specs.Owners.{AreOwners};
 ghost use Rattle.tx_verdict.specs.Verdicts.{IsWrong};
@@ -12,13 +12,13 @@ use crate::block::wrong_block;
 use crate::fit::puts;
 use crate::owners::owner_of;
 use crate::verdict::{Fact, Rule};
-use crate::versions::Lost;
+use crate::versions::LostUpdate;
 use std::alloc::{AllocError, Global};
-use tx_recording::{Outcome, Recording};
-use tx_views::{Owner, View, is_end};
+use tx_recording::{RecordedOutcome, Recording};
+use tx_views::{Owner, RecordedView, is_end};
 
 // A fact about a value of a view.
-fn fact_of(rule: Rule, view: View, value: u32, by: Option<u32>) -> Fact
+fn fact_of(rule: Rule, view: RecordedView, value: u32, by: Option<u32>) -> Fact
     ensures { result ≡ record { rule = rule; txn = view.txn; key = view.key; value = Some value; by = by } }
 {
     Fact {
@@ -38,8 +38,8 @@ fn is_failed(recording: &Recording, txn: u32) -> bool
         return false;
     }
     match recording.transactions[txn as usize].outcome {
-        Outcome::Fail => true,
-        Outcome::Ok | Outcome::Info => false,
+        RecordedOutcome::Fail => true,
+        RecordedOutcome::Ok | RecordedOutcome::Info => false,
     }
 }
 
@@ -47,7 +47,7 @@ fn is_failed(recording: &Recording, txn: u32) -> bool
 fn wrong_value(
     recording: &Recording,
     owners: &[Option<Owner>],
-    view: View,
+    view: RecordedView,
     list: &[u32],
     i: usize,
 ) -> Option<Fact>
@@ -75,7 +75,7 @@ fn wrong_view(
     alloc: Global,
     recording: &Recording,
     owners: &[Option<Owner>],
-    view: View,
+    view: RecordedView,
 ) -> Result<Option<Fact>, AllocError>
     requires recording { IsRecording recording.now }
     requires owners { AreOwners recording.now owners.now }
@@ -96,7 +96,7 @@ fn wrong_view(
 }
 
 // What is wrong with a view beside another one of the same transaction.
-fn wrong_again(recording: &Recording, before: View, view: View) -> Option<Fact>
+fn wrong_again(recording: &Recording, before: RecordedView, view: RecordedView) -> Option<Fact>
     requires before { IsViewOf recording.now before }
     requires view { IsViewOf recording.now view }
     ensures { IfSome result (IsWrong recording.now) }
@@ -124,7 +124,7 @@ fn wrong_again(recording: &Recording, before: View, view: View) -> Option<Fact>
 }
 
 /// The view that a table has of a key.
-pub(crate) fn view_before(views: &[View], table: &[Option<u32>], key: u32) -> Option<usize>
+pub(crate) fn view_before(views: &[RecordedView], table: &[Option<u32>], key: u32) -> Option<usize>
     ensures { IfSome result (λ i. i < length views.now) }
 {
     let Some(Some(place)) = table.get(key as usize) else {
@@ -150,11 +150,11 @@ pub fn wrong_views(
     alloc: Global,
     recording: &Recording,
     owners: &[Option<Owner>],
-    views: &[View],
+    views: &[RecordedView],
 ) -> Result<Option<Fact>, AllocError>
     requires recording { IsRecording recording.now }
     requires owners { AreOwners recording.now owners.now }
-    requires views { (v : View) → Contains views.now v → IsViewOf recording.now v }
+    requires views { (v : RecordedView) → Contains views.now v → IsViewOf recording.now v }
     ensures { IfOk result (λ found. IfSome found (IsWrong recording.now)) }
 {
     let mut table = vec![in alloc; None; recording.keys as usize]?;
@@ -177,7 +177,7 @@ pub fn wrong_views(
 }
 
 // Whether two views are of the same value, or of none.
-fn is_same(recording: &Recording, one: View, other: View) -> bool
+fn is_same(recording: &Recording, one: RecordedView, other: RecordedView) -> bool
     requires one { IsViewOf recording.now one }
     requires other { IsViewOf recording.now other }
     ensures { IsTrue result → list_of recording.now one.span ≡ list_of recording.now other.span }
@@ -193,12 +193,12 @@ fn is_same(recording: &Recording, one: View, other: View) -> bool
 pub fn wrong_update(
     recording: &Recording,
     owners: &[Option<Owner>],
-    views: &[View],
-    lost: Lost,
+    views: &[RecordedView],
+    lost: LostUpdate,
 ) -> Option<Fact>
     requires recording { IsRecording recording.now }
     requires owners { AreOwners recording.now owners.now }
-    requires views { (v : View) → Contains views.now v → IsViewOf recording.now v }
+    requires views { (v : RecordedView) → Contains views.now v → IsViewOf recording.now v }
     ensures { IfSome result (IsWrong recording.now) }
 {
     let first = lost.first as usize;
@@ -245,7 +245,7 @@ pub fn wrong_update(
 }
 
 // Whether the transaction of a view puts into its key, and is known to have committed.
-fn is_update(recording: &Recording, view: View) -> bool
+fn is_update(recording: &Recording, view: RecordedView) -> bool
     requires recording { IsRecording recording.now }
     requires view { IsViewOf recording.now view }
     requires within { view.txn < length recording.now.transactions.items }

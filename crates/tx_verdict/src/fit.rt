@@ -1,9 +1,9 @@
 //! Whether versions are what their writers make of them, and what was read.
 ghost use Rattle.std.specs.Prelude.{◌≡◌, ◌⊎◌, ℕ, ◌+◌, ◌-◌, ◌^◌, ◌<◌, ◌≤◌, length, Contains, IfOk, IfSome, IfNone, IsTrue, true, false};
-ghost use Rattle.tx_recording.specs.declared.recording.Outcome.TheVariants.{Ok as Committed, Fail as Failed};
+ghost use Rattle.tx_recording.specs.declared.recording.RecordedOutcome.TheVariants.{Ok as Committed, Fail as Failed};
 ghost use Rattle.tx_recording.specs.Recordings.{IsRecording, txns_of, transaction_at, ops_of};
 ghost use Rattle.tx_recording.specs.Explanations.{PutsIn, IsPut, Puts};
-ghost use Rattle.tx_views.specs.declared.view.View.{View};
+ghost use Rattle.tx_views.specs.declared.view.RecordedView.{RecordedView};
 ghost use Rattle.tx_views.specs.Views.{left_by, IsViewOf};
 ghost use Rattle.tx_history.specs.Records.{IsRecorded, history_of, writers_of};
 ghost use Rattle.tx_verdict.specs.Versions.{text_in, text_of, live_of, IsVersionFit, IsKeyFit, IsPlaced, IsViewFit};
@@ -12,11 +12,11 @@ ghost use Rattle.tx_verdict.specs.Fits.{IsFit};
 use crate::versions::{Versions, text_at};
 use std::alloc::{AllocError, Global};
 use tx_history::Read;
-use tx_recording::{Act, Op, Outcome, Recording, Span};
-use tx_views::{Effect, View, effect_of, is_end};
+use tx_recording::{Act, RecordedOp, RecordedOutcome, Recording, Span};
+use tx_views::{Effect, RecordedView, effect_of, is_end};
 
 /// Whether one of the operations puts a value into the key.
-pub(crate) fn puts(ops: &[Op], key: u32) -> bool
+pub(crate) fn puts(ops: &[RecordedOp], key: u32) -> bool
     ensures { IsTrue result → (v : ℕ) × PutsIn ops.now key v }
 {
     for i in 0..ops.len() {
@@ -162,7 +162,7 @@ pub fn value_of(act: Act) -> Option<u32>
 
 // Whether an operation of a transaction puts nothing, or the transaction wrote a version of its
 // key.
-fn is_op_placed(versions: &Versions, txn: u32, op: Op) -> bool
+fn is_op_placed(versions: &Versions, txn: u32, op: RecordedOp) -> bool
     requires { IsRecorded versions.now.recorded }
     ensures { IsTrue result → (v : ℕ) → Puts op.act v → IsPlaced versions.now txn op.key }
 {
@@ -173,7 +173,7 @@ fn is_op_placed(versions: &Versions, txn: u32, op: Op) -> bool
 }
 
 // Whether a transaction wrote a version of each key that it puts into.
-fn are_ops_placed(versions: &Versions, txn: u32, ops: &[Op]) -> bool
+fn are_ops_placed(versions: &Versions, txn: u32, ops: &[RecordedOp]) -> bool
     requires { IsRecorded versions.now.recorded }
     ensures { IsTrue result → (k v : ℕ) → PutsIn ops.now k v → IsPlaced versions.now txn k }
 {
@@ -217,8 +217,8 @@ fn are_live(recording: &Recording, versions: &Versions) -> bool
     for txn in 0..recording.transactions.len() {
         let live = versions.live[txn];
         match recording.transactions[txn].outcome {
-            Outcome::Ok if !live => return false,
-            Outcome::Fail if live => return false,
+            RecordedOutcome::Ok if !live => return false,
+            RecordedOutcome::Fail if live => return false,
             _ => {}
         }
     }
@@ -226,7 +226,7 @@ fn are_live(recording: &Recording, versions: &Versions) -> bool
 }
 
 // Whether what was seen is the version that was read.
-fn fits_view(recording: &Recording, versions: &Versions, view: View, read: Read) -> bool
+fn fits_view(recording: &Recording, versions: &Versions, view: RecordedView, read: Read) -> bool
     requires recording { IsRecording recording.now }
     requires history { IsRecorded versions.now.recorded }
     requires read { Contains versions.now.recorded.reads.items read }
@@ -253,11 +253,11 @@ fn fits_view(recording: &Recording, versions: &Versions, view: View, read: Read)
 }
 
 // Whether all that was seen is what was read.
-fn are_views_fit(recording: &Recording, views: &[View], versions: &Versions) -> bool
+fn are_views_fit(recording: &Recording, views: &[RecordedView], versions: &Versions) -> bool
     requires recording { IsRecording recording.now }
     requires history { IsRecorded versions.now.recorded }
-    requires views { (v : View) → Contains views.now v → IsViewOf recording.now v }
-    ensures { IsTrue result → (v : View) → Contains views.now v → IsViewFit recording.now versions.now v }
+    requires views { (v : RecordedView) → Contains views.now v → IsViewOf recording.now v }
+    ensures { IsTrue result → (v : RecordedView) → Contains views.now v → IsViewFit recording.now versions.now v }
 {
     if versions.recorded.reads.len() != views.len() {
         return false;
@@ -274,12 +274,12 @@ fn are_views_fit(recording: &Recording, views: &[View], versions: &Versions) -> 
 pub(crate) fn is_fit(
     alloc: Global,
     recording: &Recording,
-    views: &[View],
+    views: &[RecordedView],
     versions: &Versions,
 ) -> Result<bool, AllocError>
     requires recording { IsRecording recording.now }
     requires history { IsRecorded versions.now.recorded }
-    requires views { (v : View) → Contains views.now v → IsViewOf recording.now v }
+    requires views { (v : RecordedView) → Contains views.now v → IsViewOf recording.now v }
     ensures { IfOk result (λ fits. IsTrue fits → IsFit recording.now views.now (history_of versions.now.recorded)
         (live_of versions.now) (text_of versions.now)) }
 {

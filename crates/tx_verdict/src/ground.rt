@@ -1,7 +1,7 @@
 //! Why a step of a round is so.
 ghost use Rattle.std.specs.Prelude.{◌≡◌, Contains, Some, IfOk, IfSome, IsTrue};
 ghost use Rattle.tx_recording.specs.Recordings.{IsRecording};
-ghost use Rattle.tx_views.specs.declared.view.View.{View};
+ghost use Rattle.tx_views.specs.declared.view.RecordedView.{RecordedView};
 ghost use Rattle.tx_views.specs.Views.{IsViewOf};
 ghost use Rattle.tx_views.specs.Owners.{AreOwners};
 ghost use Rattle.tx_history.specs.Records.{IsRecorded};
@@ -10,14 +10,14 @@ ghost use Rattle.tx_verdict.specs.Steps.{IsStep};
 ghost use Rattle.tx_verdict.specs.Refutations.{AreOrders, IsOrdered, IsStepBy};
 
 use crate::owners::{sees_nothing, sees_writer};
-use crate::refutation::Order;
+use crate::refutation::WriteOrder;
 use crate::steps::{step_in_process, step_in_time};
 use crate::stretch::{Stretch, has_written, is_behind_in, is_next_in, is_train};
-use crate::verdict::{CycleStep, Edge};
+use crate::verdict::{CycleStep, EdgeKind};
 use crate::versions::Versions;
 use std::alloc::{AllocError, Global};
 use tx_recording::{Orders, Recording};
-use tx_views::{Owner, View};
+use tx_views::{Owner, RecordedView};
 
 /// Of two versions of a key, why the second was written behind the first.
 #[derive(Clone, Copy, Debug, PartialEq, Eq)]
@@ -50,14 +50,14 @@ pub enum Ground {
 fn is_seen(
     recording: &Recording,
     owners: &[Option<Owner>],
-    views: &[View],
+    views: &[RecordedView],
     view: u32,
     txn: u32,
     key: u32,
     writer: u32,
 ) -> bool
     requires owners { AreOwners recording.now owners.now }
-    requires views { (v : View) → Contains views.now v → IsViewOf recording.now v }
+    requires views { (v : RecordedView) → Contains views.now v → IsViewOf recording.now v }
     ensures { IsTrue result → SawOf recording.now txn key writer }
 {
     if view as usize >= views.len() {
@@ -67,7 +67,7 @@ fn is_seen(
 }
 
 // The key of a step with this edge.
-fn key_with(step: CycleStep, edge: Edge) -> Option<u32>
+fn key_with(step: CycleStep, edge: EdgeKind) -> Option<u32>
     ensures { IfSome result (λ key. (step.edge ≡ edge) × (step.key ≡ Some key)) }
 {
     if step.edge != edge {
@@ -81,9 +81,9 @@ fn is_ordered(
     alloc: Global,
     recording: &Recording,
     owners: &[Option<Owner>],
-    views: &[View],
+    views: &[RecordedView],
     versions: &Versions,
-    known: &[Order],
+    known: &[WriteOrder],
     place: u32,
     forth: Stretch,
     back: Stretch,
@@ -93,7 +93,7 @@ fn is_ordered(
 ) -> Result<bool, AllocError>
     requires recording { IsRecording recording.now }
     requires owners { AreOwners recording.now owners.now }
-    requires views { (v : View) → Contains views.now v → IsViewOf recording.now v }
+    requires views { (v : RecordedView) → Contains views.now v → IsViewOf recording.now v }
     requires history { IsRecorded versions.now.recorded }
     ensures { IfOk result (λ is. IsTrue is → IsOrdered recording.now known.now key first second) }
 {
@@ -138,7 +138,7 @@ fn is_behind(
     alloc: Global,
     recording: &Recording,
     owners: &[Option<Owner>],
-    views: &[View],
+    views: &[RecordedView],
     versions: &Versions,
     behind: Behind,
     key: u32,
@@ -147,7 +147,7 @@ fn is_behind(
 ) -> Result<bool, AllocError>
     requires recording { IsRecording recording.now }
     requires owners { AreOwners recording.now owners.now }
-    requires views { (v : View) → Contains views.now v → IsViewOf recording.now v }
+    requires views { (v : RecordedView) → Contains views.now v → IsViewOf recording.now v }
     requires history { IsRecorded versions.now.recorded }
     ensures { IfOk result (λ is. IsTrue is → IsBehind recording.now key first second) }
 {
@@ -172,16 +172,16 @@ fn is_behind(
 fn is_read(
     recording: &Recording,
     owners: &[Option<Owner>],
-    views: &[View],
+    views: &[RecordedView],
     orders: Orders,
     step: CycleStep,
     view: u32,
 ) -> bool
     requires owners { AreOwners recording.now owners.now }
-    requires views { (v : View) → Contains views.now v → IsViewOf recording.now v }
+    requires views { (v : RecordedView) → Contains views.now v → IsViewOf recording.now v }
     ensures { IsTrue result → IsStep recording.now orders step }
 {
-    let Some(key) = key_with(step, Edge::Wr) else {
+    let Some(key) = key_with(step, EdgeKind::Wr) else {
         return false;
     };
     is_seen(recording, owners, views, view, step.to, key, step.from)
@@ -192,20 +192,20 @@ fn is_written(
     alloc: Global,
     recording: &Recording,
     owners: &[Option<Owner>],
-    views: &[View],
+    views: &[RecordedView],
     versions: &Versions,
     orders: Orders,
-    known: &[Order],
+    known: &[WriteOrder],
     step: CycleStep,
     behind: Behind,
 ) -> Result<bool, AllocError>
     requires recording { IsRecording recording.now }
     requires owners { AreOwners recording.now owners.now }
-    requires views { (v : View) → Contains views.now v → IsViewOf recording.now v }
+    requires views { (v : RecordedView) → Contains views.now v → IsViewOf recording.now v }
     requires history { IsRecorded versions.now.recorded }
     ensures { IfOk result (λ is. IsTrue is → IsStepBy recording.now orders known.now step) }
 {
-    let Some(key) = key_with(step, Edge::Ww) else {
+    let Some(key) = key_with(step, EdgeKind::Ww) else {
         return Ok(false);
     };
     if let Behind::Known(place, forth, back) = behind {
@@ -231,7 +231,7 @@ fn is_written(
 fn is_before_all(
     recording: &Recording,
     owners: &[Option<Owner>],
-    views: &[View],
+    views: &[RecordedView],
     versions: &Versions,
     orders: Orders,
     step: CycleStep,
@@ -239,10 +239,10 @@ fn is_before_all(
 ) -> bool
     requires recording { IsRecording recording.now }
     requires owners { AreOwners recording.now owners.now }
-    requires views { (v : View) → Contains views.now v → IsViewOf recording.now v }
+    requires views { (v : RecordedView) → Contains views.now v → IsViewOf recording.now v }
     ensures { IsTrue result → IsStep recording.now orders step }
 {
-    let Some(key) = key_with(step, Edge::Rw) else {
+    let Some(key) = key_with(step, EdgeKind::Rw) else {
         return false;
     };
     if !has_written(recording, owners, views, versions, step.to, key) {
@@ -259,10 +259,10 @@ fn is_missed(
     alloc: Global,
     recording: &Recording,
     owners: &[Option<Owner>],
-    views: &[View],
+    views: &[RecordedView],
     versions: &Versions,
     orders: Orders,
-    known: &[Order],
+    known: &[WriteOrder],
     step: CycleStep,
     view: u32,
     writer: u32,
@@ -270,11 +270,11 @@ fn is_missed(
 ) -> Result<bool, AllocError>
     requires recording { IsRecording recording.now }
     requires owners { AreOwners recording.now owners.now }
-    requires views { (v : View) → Contains views.now v → IsViewOf recording.now v }
+    requires views { (v : RecordedView) → Contains views.now v → IsViewOf recording.now v }
     requires history { IsRecorded versions.now.recorded }
     ensures { IfOk result (λ is. IsTrue is → IsStepBy recording.now orders known.now step) }
 {
-    let Some(key) = key_with(step, Edge::Rw) else {
+    let Some(key) = key_with(step, EdgeKind::Rw) else {
         return Ok(false);
     };
     if !is_seen(recording, owners, views, view, step.from, key, writer) {
@@ -301,9 +301,9 @@ fn is_asked(recording: &Recording, orders: Orders, step: CycleStep) -> bool
     ensures { IsTrue result → IsStep recording.now orders step }
 {
     let found = match step.edge {
-        Edge::So => step_in_process(recording, orders, step.from, step.to),
-        Edge::Rt => step_in_time(recording, orders, step.from, step.to),
-        Edge::Ww | Edge::Wr | Edge::Rw => None,
+        EdgeKind::So => step_in_process(recording, orders, step.from, step.to),
+        EdgeKind::Rt => step_in_time(recording, orders, step.from, step.to),
+        EdgeKind::Ww | EdgeKind::Wr | EdgeKind::Rw => None,
     };
     match found {
         Some(made) => made == step,
@@ -316,16 +316,16 @@ pub(crate) fn is_step_by(
     alloc: Global,
     recording: &Recording,
     owners: &[Option<Owner>],
-    views: &[View],
+    views: &[RecordedView],
     versions: &Versions,
     orders: Orders,
-    known: &[Order],
+    known: &[WriteOrder],
     step: CycleStep,
     ground: Ground,
 ) -> Result<bool, AllocError>
     requires recording { IsRecording recording.now }
     requires owners { AreOwners recording.now owners.now }
-    requires views { (v : View) → Contains views.now v → IsViewOf recording.now v }
+    requires views { (v : RecordedView) → Contains views.now v → IsViewOf recording.now v }
     requires history { IsRecorded versions.now.recorded }
     ensures { IfOk result (λ is. IsTrue is → IsStepBy recording.now orders known.now step) }
 {

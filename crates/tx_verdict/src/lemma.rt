@@ -1,7 +1,7 @@
 //! Clauses of question, each of which follows from those before it.
 ghost use Rattle.std.specs.Prelude.{◌≡◌, ◌⊎◌, ◌++◌, ◌∷◌, [], Contains, OnOk, IfOk, IsTrue, take};
 ghost use Rattle.tx_recording.specs.Recordings.{IsRecording};
-ghost use Rattle.tx_views.specs.declared.view.View.{View};
+ghost use Rattle.tx_views.specs.declared.view.RecordedView.{RecordedView};
 ghost use Rattle.tx_views.specs.Views.{IsViewOf};
 ghost use Rattle.tx_views.specs.Owners.{AreOwners};
 ghost use Rattle.tx_history.specs.Records.{IsRecorded};
@@ -9,19 +9,19 @@ ghost use Rattle.tx_verdict.specs.Refutations.{IsOrder, opposite, IsUnit, IsUnit
 
 use crate::ground::Ground;
 use crate::question::Question;
-use crate::refutation::{Hint, Lemma, Order, is_round_by};
+use crate::refutation::{Hint, Lemma, WriteOrder, is_round_by};
 use crate::stretch::has_written;
 use crate::verdict::CycleStep;
 use crate::versions::Versions;
 use std::alloc::{AllocError, Global};
 use tx_recording::Recording;
-use tx_views::{Owner, View};
+use tx_views::{Owner, RecordedView};
 
 // The order the other way round.
-fn opposite_of(order: Order) -> Order
+fn opposite_of(order: WriteOrder) -> WriteOrder
     ensures { result ≡ opposite order }
 {
-    Order {
+    WriteOrder {
         key: order.key,
         first: order.second,
         second: order.first,
@@ -29,7 +29,7 @@ fn opposite_of(order: Order) -> Order
 }
 
 // Whether an order is known.
-fn is_among(known: &[Order], order: Order) -> bool
+fn is_among(known: &[WriteOrder], order: WriteOrder) -> bool
     ensures { IsTrue result → Contains known.now order }
 {
     for i in 0..known.len() {
@@ -41,7 +41,7 @@ fn is_among(known: &[Order], order: Order) -> bool
 }
 
 // Whether an order is this one, or is known to be the other way round.
-fn is_other(known: &[Order], order: Order, left: Order) -> bool
+fn is_other(known: &[WriteOrder], order: WriteOrder, left: WriteOrder) -> bool
     ensures { IsTrue result → (order ≡ left) ⊎ Contains known.now (opposite order) }
 {
     if order == left {
@@ -51,7 +51,7 @@ fn is_other(known: &[Order], order: Order, left: Order) -> bool
 }
 
 // Whether all orders of a clause but this one are known to be the other way round.
-fn is_unit(known: &[Order], clause: &[Order], left: Order) -> bool
+fn is_unit(known: &[WriteOrder], clause: &[WriteOrder], left: WriteOrder) -> bool
     ensures { IsTrue result → IsUnit known.now clause.now left }
 {
     for i in 0..clause.len() {
@@ -63,7 +63,7 @@ fn is_unit(known: &[Order], clause: &[Order], left: Order) -> bool
 }
 
 // Whether an order is what is left of the clause of a lemma.
-fn is_left(lemmas: &[Lemma], known: &[Order], hint: Hint) -> bool
+fn is_left(lemmas: &[Lemma], known: &[WriteOrder], hint: Hint) -> bool
     ensures { IsTrue result → IsUnitOf lemmas.now known.now hint }
 {
     let place = hint.lemma as usize;
@@ -78,18 +78,18 @@ fn closes_by(
     alloc: Global,
     recording: &Recording,
     owners: &[Option<Owner>],
-    views: &[View],
+    views: &[RecordedView],
     versions: &Versions,
     question: Question,
     lemmas: &[Lemma],
-    known: &mut Vec<Order>,
+    known: &mut Vec<WriteOrder>,
     hints: &[Hint],
     steps: &[CycleStep],
     grounds: &[Ground],
 ) -> Result<bool, AllocError>
     requires recording { IsRecording recording.now }
     requires owners { AreOwners recording.now owners.now }
-    requires views { (v : View) → Contains views.now v → IsViewOf recording.now v }
+    requires views { (v : RecordedView) → Contains views.now v → IsViewOf recording.now v }
     requires history { IsRecorded versions.now.recorded }
     ensures { IfOk result (λ is. IsTrue is
         → ClosesBy recording.now question lemmas.now known.old.items hints.now steps.now) }
@@ -118,13 +118,13 @@ fn closes_by(
 fn is_order(
     recording: &Recording,
     owners: &[Option<Owner>],
-    views: &[View],
+    views: &[RecordedView],
     versions: &Versions,
-    order: Order,
+    order: WriteOrder,
 ) -> bool
     requires recording { IsRecording recording.now }
     requires owners { AreOwners recording.now owners.now }
-    requires views { (v : View) → Contains views.now v → IsViewOf recording.now v }
+    requires views { (v : RecordedView) → Contains views.now v → IsViewOf recording.now v }
     ensures { IsTrue result → IsOrder recording.now order }
 {
     if order.first == order.second {
@@ -141,16 +141,16 @@ fn is_lemma(
     alloc: Global,
     recording: &Recording,
     owners: &[Option<Owner>],
-    views: &[View],
+    views: &[RecordedView],
     versions: &Versions,
     question: Question,
-    known: &[Order],
+    known: &[WriteOrder],
     before: &[Lemma],
     lemma: &Lemma,
 ) -> Result<bool, AllocError>
     requires recording { IsRecording recording.now }
     requires owners { AreOwners recording.now owners.now }
-    requires views { (v : View) → Contains views.now v → IsViewOf recording.now v }
+    requires views { (v : RecordedView) → Contains views.now v → IsViewOf recording.now v }
     requires history { IsRecorded versions.now.recorded }
     ensures { IfOk result (λ is. IsTrue is → IsLemmaBy recording.now question known.now before.now lemma.now) }
 {
@@ -185,10 +185,10 @@ pub(crate) fn are_lemmas(
     alloc: Global,
     recording: &Recording,
     owners: &[Option<Owner>],
-    views: &[View],
+    views: &[RecordedView],
     versions: &Versions,
     question: Question,
-    known: &[Order],
+    known: &[WriteOrder],
     lemmas: &[Lemma],
     hints: &[Hint],
     last: &[CycleStep],
@@ -196,7 +196,7 @@ pub(crate) fn are_lemmas(
 ) -> Result<bool, AllocError>
     requires recording { IsRecording recording.now }
     requires owners { AreOwners recording.now owners.now }
-    requires views { (v : View) → Contains views.now v → IsViewOf recording.now v }
+    requires views { (v : RecordedView) → Contains views.now v → IsViewOf recording.now v }
     requires history { IsRecorded versions.now.recorded }
     ensures { IfOk result (λ is. IsTrue is
         → AreLemmasBy recording.now question known.now [] lemmas.now hints.now last.now) }

@@ -2,7 +2,7 @@
 //! there.
 ghost use Rattle.std.specs.Prelude.{◌≡◌, ◌≢◌, ◌<◌, length, Contains, IfOk, IfSome, IsTrue, slice_index};
 ghost use Rattle.tx_recording.specs.Recordings.{IsRecording, list_of};
-ghost use Rattle.tx_views.specs.declared.view.View.{View};
+ghost use Rattle.tx_views.specs.declared.view.RecordedView.{RecordedView};
 ghost use Rattle.tx_views.specs.Owners.{AreOwners};
 ghost use Rattle.tx_views.specs.Views.{IsViewOf};
 ghost use Rattle.tx_verdict.specs.Facts.{AreLists};
@@ -14,7 +14,7 @@ use crate::owners::owner_of;
 use crate::verdict::{Fact, Rule};
 use std::alloc::{AllocError, Global};
 use tx_recording::{Act, Recording};
-use tx_views::{Owner, View};
+use tx_views::{Owner, RecordedView};
 
 /// Whether nothing is written in place of what was there: all keys hold lists.
 pub fn are_lists(recording: &Recording) -> bool
@@ -43,7 +43,7 @@ fn first_difference(one: &[u32], other: &[u32]) -> Option<usize>
 }
 
 // What is wrong with a list beside another one of the same key: neither begins with the other.
-fn wrong_order(recording: &Recording, view: View, other: View) -> Option<Fact>
+fn wrong_order(recording: &Recording, view: RecordedView, other: RecordedView) -> Option<Fact>
     requires lists { AreLists recording.now }
     requires view { IsViewOf recording.now view }
     requires other { IsViewOf recording.now other }
@@ -64,9 +64,13 @@ fn wrong_order(recording: &Recording, view: View, other: View) -> Option<Fact>
 }
 
 // What is wrong with a list beside the longest of its key.
-fn wrong_orders(recording: &Recording, views: &[View], longest: &[Option<u32>]) -> Option<Fact>
+fn wrong_orders(
+    recording: &Recording,
+    views: &[RecordedView],
+    longest: &[Option<u32>],
+) -> Option<Fact>
     requires lists { AreLists recording.now }
-    requires views { (v : View) → Contains views.now v → IsViewOf recording.now v }
+    requires views { (v : RecordedView) → Contains views.now v → IsViewOf recording.now v }
     ensures { IfSome result (IsWrong recording.now) }
 {
     for i in 0..views.len() {
@@ -110,7 +114,7 @@ fn note_place(table: &mut [usize], value: u32, place: usize) {
 fn wrong_twice(
     recording: &Recording,
     owners: &[Option<Owner>],
-    view: View,
+    view: RecordedView,
     table: &mut [usize],
 ) -> Option<Fact>
     requires owners { AreOwners recording.now owners.now }
@@ -151,7 +155,7 @@ fn wrong_blocks(
     alloc: Global,
     recording: &Recording,
     owners: &[Option<Owner>],
-    view: View,
+    view: RecordedView,
 ) -> Result<Option<Fact>, AllocError>
     requires recording { IsRecording recording.now }
     requires owners { AreOwners recording.now owners.now }
@@ -176,12 +180,12 @@ fn wrong_longest(
     alloc: Global,
     recording: &Recording,
     owners: &[Option<Owner>],
-    views: &[View],
+    views: &[RecordedView],
     longest: &[Option<u32>],
 ) -> Result<Option<Fact>, AllocError>
     requires recording { IsRecording recording.now }
     requires owners { AreOwners recording.now owners.now }
-    requires views { (v : View) → Contains views.now v → IsViewOf recording.now v }
+    requires views { (v : RecordedView) → Contains views.now v → IsViewOf recording.now v }
     ensures { IfOk result (λ found. IfSome found (IsWrong recording.now)) }
 {
     let mut table = vec![in alloc; 0; recording.values as usize]?;
@@ -211,13 +215,13 @@ pub fn wrong_lists(
     alloc: Global,
     recording: &Recording,
     owners: &[Option<Owner>],
-    views: &[View],
+    views: &[RecordedView],
     longest: &[Option<u32>],
 ) -> Result<Option<Fact>, AllocError>
     requires recording { IsRecording recording.now }
     requires owners { AreOwners recording.now owners.now }
     requires lists { AreLists recording.now }
-    requires views { (v : View) → Contains views.now v → IsViewOf recording.now v }
+    requires views { (v : RecordedView) → Contains views.now v → IsViewOf recording.now v }
     ensures { IfOk result (λ found. IfSome found (IsWrong recording.now)) }
 {
     let found = wrong_orders(recording, views, longest);

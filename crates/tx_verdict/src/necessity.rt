@@ -1,7 +1,7 @@
 //! Whether what versions stand on holds under each explanation.
 ghost use Rattle.std.specs.Prelude.{ℕ, ◌+◌, ◌-◌, ◌<◌, Contains, Some, IfOk, IsTrue};
 ghost use Rattle.tx_recording.specs.Recordings.{IsRecording, ops_of};
-ghost use Rattle.tx_views.specs.declared.view.View.{View};
+ghost use Rattle.tx_views.specs.declared.view.RecordedView.{RecordedView};
 ghost use Rattle.tx_views.specs.Views.{IsViewOf};
 ghost use Rattle.tx_views.specs.Owners.{AreOwners};
 ghost use Rattle.tx_views.specs.declared.owner.Owner.{Owner};
@@ -17,7 +17,7 @@ use crate::versions::{Shown, Versions};
 use std::alloc::{AllocError, Global};
 use tx_history::Read;
 use tx_recording::Recording;
-use tx_views::{Owner, View};
+use tx_views::{Owner, RecordedView};
 
 // Whether the writers of a chain put into its key and are known to have committed.
 fn are_writers(recording: &Recording, versions: &Versions, chain: u32, key: u32) -> bool
@@ -47,12 +47,12 @@ fn are_chains(
     alloc: Global,
     recording: &Recording,
     owners: &[Option<Owner>],
-    views: &[View],
+    views: &[RecordedView],
     versions: &Versions,
 ) -> Result<bool, AllocError>
     requires recording { IsRecording recording.now }
     requires owners { AreOwners recording.now owners.now }
-    requires views { (v : View) → Contains views.now v → IsViewOf recording.now v }
+    requires views { (v : RecordedView) → Contains views.now v → IsViewOf recording.now v }
     requires history { IsRecorded versions.now.recorded }
     requires known { AreKnown recording.now versions.now }
     ensures { IfOk result (λ are. IsTrue are → (q : ℕ) → IsChain recording.now versions.now q) }
@@ -80,12 +80,12 @@ fn are_chains(
 fn is_shown(
     recording: &Recording,
     owners: &[Option<Owner>],
-    views: &[View],
+    views: &[RecordedView],
     shown: Shown,
     txn: u32,
 ) -> bool
     requires owners { AreOwners recording.now owners.now }
-    requires views { (v : View) → Contains views.now v → IsViewOf recording.now v }
+    requires views { (v : RecordedView) → Contains views.now v → IsViewOf recording.now v }
     ensures { IsTrue result → HasCommitted recording.now txn }
 {
     if shown.view as usize >= views.len() {
@@ -102,12 +102,12 @@ fn is_shown(
 pub(crate) fn is_known(
     recording: &Recording,
     owners: &[Option<Owner>],
-    views: &[View],
+    views: &[RecordedView],
     versions: &Versions,
     txn: u32,
 ) -> bool
     requires owners { AreOwners recording.now owners.now }
-    requires views { (v : View) → Contains views.now v → IsViewOf recording.now v }
+    requires views { (v : RecordedView) → Contains views.now v → IsViewOf recording.now v }
     ensures { IsTrue result → HasCommitted recording.now txn }
 {
     if txn as usize >= recording.transactions.len() {
@@ -126,11 +126,11 @@ pub(crate) fn is_known(
 fn are_known(
     recording: &Recording,
     owners: &[Option<Owner>],
-    views: &[View],
+    views: &[RecordedView],
     versions: &Versions,
 ) -> bool
     requires owners { AreOwners recording.now owners.now }
-    requires views { (v : View) → Contains views.now v → IsViewOf recording.now v }
+    requires views { (v : RecordedView) → Contains views.now v → IsViewOf recording.now v }
     ensures { IsTrue result → AreKnown recording.now versions.now }
 {
     if versions.live.len() > 0xffff_ffff {
@@ -151,7 +151,7 @@ fn are_known(
 fn is_read(
     recording: &Recording,
     owners: &[Option<Owner>],
-    view: View,
+    view: RecordedView,
     versions: &Versions,
     read: Read,
 ) -> bool
@@ -182,11 +182,11 @@ fn is_read(
 fn are_reads(
     recording: &Recording,
     owners: &[Option<Owner>],
-    views: &[View],
+    views: &[RecordedView],
     versions: &Versions,
 ) -> bool
     requires owners { AreOwners recording.now owners.now }
-    requires views { (v : View) → Contains views.now v → IsViewOf recording.now v }
+    requires views { (v : RecordedView) → Contains views.now v → IsViewOf recording.now v }
     requires history { IsRecorded versions.now.recorded }
     ensures { IsTrue result → (p : Read) → Contains versions.now.recorded.reads.items p
         → IsReadForced recording.now versions.now p }
@@ -213,12 +213,12 @@ pub(crate) fn is_forced(
     alloc: Global,
     recording: &Recording,
     owners: &[Option<Owner>],
-    views: &[View],
+    views: &[RecordedView],
     versions: &Versions,
 ) -> Result<bool, AllocError>
     requires recording { IsRecording recording.now }
     requires owners { AreOwners recording.now owners.now }
-    requires views { (v : View) → Contains views.now v → IsViewOf recording.now v }
+    requires views { (v : RecordedView) → Contains views.now v → IsViewOf recording.now v }
     requires history { IsRecorded versions.now.recorded }
     ensures { IfOk result (λ are. IsTrue are
         → AreForced recording.now (history_of versions.now.recorded) (key_of versions.now)) }

@@ -4,10 +4,10 @@ ghost use Rattle.tx_recording.specs.Recordings.{IsRecording, ops_of};
 ghost use Rattle.tx_verdict.specs.Undecided.{PutsFirst, IsBlind, IsUndecided};
 
 use crate::fit::{puts, value_of};
-use tx_recording::{Op, Outcome, Recording};
+use tx_recording::{RecordedOp, RecordedOutcome, Recording};
 
 // Whether the first of the operations on a key puts into it.
-fn puts_first(ops: &[Op], key: u32) -> bool
+fn puts_first(ops: &[RecordedOp], key: u32) -> bool
     ensures { IsTrue result → PutsFirst ops.now key }
 {
     for i in 0..ops.len() {
@@ -30,9 +30,9 @@ fn is_blind(recording: &Recording, txn: u32, key: u32) -> bool
     }
     let ops = recording.ops_of(txn as usize);
     match recording.transactions[txn as usize].outcome {
-        Outcome::Ok => puts_first(ops, key),
-        Outcome::Info => puts(ops, key),
-        Outcome::Fail => false,
+        RecordedOutcome::Ok => puts_first(ops, key),
+        RecordedOutcome::Info => puts(ops, key),
+        RecordedOutcome::Fail => false,
     }
 }
 

@@ -6,7 +6,7 @@ ghost use Rattle.tx_views.specs.declared.owner.Owner.{Owner};
 ghost use Rattle.tx_verdict.specs.Reasons.{SawOf};
 
 use tx_recording::Recording;
-use tx_views::{Owner, View};
+use tx_views::{Owner, RecordedView};
 
 /// Who put a value.
 pub(crate) fn owner_of(owners: &[Option<Owner>], value: u32) -> Option<Owner>
@@ -33,7 +33,7 @@ pub(crate) fn is_by(owners: &[Option<Owner>], value: u32, txn: u32) -> bool
 pub(crate) fn sees_writer(
     recording: &Recording,
     owners: &[Option<Owner>],
-    view: View,
+    view: RecordedView,
     txn: u32,
     key: u32,
     writer: u32,
@@ -57,7 +57,7 @@ pub(crate) fn sees_writer(
 }
 
 /// Whether a view is of a key that holds nothing.
-pub(crate) fn sees_nothing(recording: &Recording, view: View, txn: u32, key: u32) -> bool
+pub(crate) fn sees_nothing(recording: &Recording, view: RecordedView, txn: u32, key: u32) -> bool
     requires view { IsViewOf recording.now view }
     ensures { IsTrue result → Saw recording.now txn key [] }
 {

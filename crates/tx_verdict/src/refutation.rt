@@ -1,7 +1,7 @@
 //! A refutation of a recording of which some keys' orders are open.
 ghost use Rattle.std.specs.Prelude.{◌≡◌, [], ◌∷◌, ◌++◌, Contains, IfOk, IsTrue};
 ghost use Rattle.tx_recording.specs.Recordings.{IsRecording};
-ghost use Rattle.tx_views.specs.declared.view.View.{View};
+ghost use Rattle.tx_views.specs.declared.view.RecordedView.{RecordedView};
 ghost use Rattle.tx_views.specs.Views.{IsViewOf};
 ghost use Rattle.tx_views.specs.Owners.{AreOwners};
 ghost use Rattle.tx_history.specs.Records.{IsRecorded};
@@ -17,11 +17,11 @@ use crate::verdict::CycleStep;
 use crate::versions::Versions;
 use std::alloc::{AllocError, Global};
 use tx_recording::Recording;
-use tx_views::{Owner, View};
+use tx_views::{Owner, RecordedView};
 
 /// Of two that wrote a key, the first wrote it before the second.
 #[derive(Clone, Copy, Debug, PartialEq, Eq)]
-pub struct Order {
+pub struct WriteOrder {
     pub key: u32,
     pub first: u32,
     pub second: u32,
@@ -30,7 +30,7 @@ pub struct Order {
 /// An order that is settled, as the opposite one would close a round.
 #[derive(Debug, Drop)]
 pub struct Settled {
-    pub order: Order,
+    pub order: WriteOrder,
     pub round: Vec<CycleStep>,
     /// Why each of its steps is so.
     pub grounds: Vec<Ground>,
@@ -41,14 +41,14 @@ pub struct Settled {
 #[derive(Clone, Copy, Debug, PartialEq, Eq)]
 pub struct Hint {
     pub lemma: u32,
-    pub order: Order,
+    pub order: WriteOrder,
 }
 
 /// A clause, one of whose orders holds: with the opposites of them all, and with what is then left
 /// of the clauses of lemmas before it, a round would close.
 #[derive(Debug, Drop)]
 pub struct Lemma {
-    pub clause: Vec<Order>,
+    pub clause: Vec<WriteOrder>,
     pub hints: Vec<Hint>,
     pub round: Vec<CycleStep>,
     /// Why each of its steps is so.
@@ -73,16 +73,16 @@ pub(crate) fn is_round_by(
     alloc: Global,
     recording: &Recording,
     owners: &[Option<Owner>],
-    views: &[View],
+    views: &[RecordedView],
     versions: &Versions,
     question: Question,
-    known: &[Order],
+    known: &[WriteOrder],
     steps: &[CycleStep],
     grounds: &[Ground],
 ) -> Result<bool, AllocError>
     requires recording { IsRecording recording.now }
     requires owners { AreOwners recording.now owners.now }
-    requires views { (v : View) → Contains views.now v → IsViewOf recording.now v }
+    requires views { (v : RecordedView) → Contains views.now v → IsViewOf recording.now v }
     requires history { IsRecorded versions.now.recorded }
     ensures { IfOk result (λ is. IsTrue is → IsRoundBy recording.now question known.now steps.now) }
 {
@@ -118,15 +118,15 @@ fn is_settled(
     alloc: Global,
     recording: &Recording,
     owners: &[Option<Owner>],
-    views: &[View],
+    views: &[RecordedView],
     versions: &Versions,
     question: Question,
-    known: &mut Vec<Order>,
+    known: &mut Vec<WriteOrder>,
     fact: &Settled,
 ) -> Result<bool, AllocError>
     requires recording { IsRecording recording.now }
     requires owners { AreOwners recording.now owners.now }
-    requires views { (v : View) → Contains views.now v → IsViewOf recording.now v }
+    requires views { (v : RecordedView) → Contains views.now v → IsViewOf recording.now v }
     requires history { IsRecorded versions.now.recorded }
     ensures { IfOk result (λ is. IsTrue is → (known.new.items ≡ known.old.items ++ fact.now.order ∷ [])
         × IsSettledBy recording.now question known.old.items fact.now) }
@@ -142,7 +142,7 @@ fn is_settled(
         return Ok(false);
     }
     let count = known.len();
-    known.push(Order {
+    known.push(WriteOrder {
         key: order.key,
         first: order.second,
         second: order.first,
@@ -170,7 +170,7 @@ fn are_settled(
     alloc: Global,
     recording: &Recording,
     owners: &[Option<Owner>],
-    views: &[View],
+    views: &[RecordedView],
     versions: &Versions,
     question: Question,
     facts: &[Settled],
@@ -178,7 +178,7 @@ fn are_settled(
 ) -> Result<bool, AllocError>
     requires recording { IsRecording recording.now }
     requires owners { AreOwners recording.now owners.now }
-    requires views { (v : View) → Contains views.now v → IsViewOf recording.now v }
+    requires views { (v : RecordedView) → Contains views.now v → IsViewOf recording.now v }
     requires history { IsRecorded versions.now.recorded }
     ensures { IfOk result (λ is. IsTrue is → IsRefutationBy recording.now question [] facts.now refutation.now) }
 {
@@ -212,14 +212,14 @@ pub fn is_refutation(
     alloc: Global,
     recording: &Recording,
     owners: &[Option<Owner>],
-    views: &[View],
+    views: &[RecordedView],
     versions: &Versions,
     question: Question,
     refutation: &Refutation,
 ) -> Result<bool, AllocError>
     requires recording { IsRecording recording.now }
     requires owners { AreOwners recording.now owners.now }
-    requires views { (v : View) → Contains views.now v → IsViewOf recording.now v }
+    requires views { (v : RecordedView) → Contains views.now v → IsViewOf recording.now v }
     requires history { IsRecorded versions.now.recorded }
     ensures refutation { IfOk result (λ is. IsTrue is → IsRefutation recording.now question refutation.now) }
     ensures refused { IfOk result (λ is. IsTrue is → IsRefused recording.now question) }

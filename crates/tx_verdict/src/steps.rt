@@ -5,28 +5,28 @@ ghost use Rattle.tx_history.specs.declared.dependency.Dependency.{Dependency};
 ghost use Rattle.tx_history.specs.Dependencies.{Depends};
 ghost use Rattle.tx_history.specs.Records.{IsRecorded, history_of};
 ghost use Rattle.tx_verdict.specs.declared.verdict.CycleStep.{CycleStep};
-ghost use Rattle.tx_verdict.specs.declared.verdict.Edge.TheVariants.{Rw, So, Rt};
+ghost use Rattle.tx_verdict.specs.declared.verdict.EdgeKind.TheVariants.{Rw, So, Rt};
 ghost use Rattle.tx_verdict.specs.Forced.{AreForced, key_of};
 ghost use Rattle.tx_verdict.specs.Steps.{IsEdgeFor, IsStep, AreSteps, AreRound, AreApart, AreOfTwo, Forbids, HasStep, Needs};
 
 use crate::anti_dependency::anti_dependency;
 use crate::pairs::{is_earlier, is_session};
 use crate::question::{Level, Question};
-use crate::verdict::{Beside, CycleStep, Edge};
+use crate::verdict::{Beside, CycleStep, EdgeKind};
 use crate::versions::Versions;
 use std::alloc::{AllocError, Global};
-use tx_history::{Dependency, Kind};
+use tx_history::{Dependency, DependencyKind};
 use tx_recording::{Orders, Recording};
 
 // The edge of a dependency by reads and writes.
-fn edge_of(kind: Kind) -> Option<Edge>
+fn edge_of(kind: DependencyKind) -> Option<EdgeKind>
     ensures { IfSome result (IsEdgeFor kind) }
 {
     match kind {
-        Kind::Ww => Some(Edge::Ww),
-        Kind::Wr => Some(Edge::Wr),
-        Kind::Rw => Some(Edge::Rw),
-        Kind::Own | Kind::After => None,
+        DependencyKind::Ww => Some(EdgeKind::Ww),
+        DependencyKind::Wr => Some(EdgeKind::Wr),
+        DependencyKind::Rw => Some(EdgeKind::Rw),
+        DependencyKind::Own | DependencyKind::After => None,
     }
 }
 
@@ -71,7 +71,7 @@ pub(crate) fn step_in_process(
     }
     Some(CycleStep {
         from,
-        edge: Edge::So,
+        edge: EdgeKind::So,
         key: None,
         to,
     })
@@ -97,7 +97,7 @@ pub(crate) fn step_in_time(
     }
     Some(CycleStep {
         from,
-        edge: Edge::Rt,
+        edge: EdgeKind::Rt,
         key: None,
         to,
     })
@@ -198,9 +198,9 @@ fn add_step(
     ensures { OnOk result (AreSteps recording.now question.orders steps.new.items) }
 {
     match dependency.kind {
-        Kind::Own => Ok(began),
-        Kind::After => add_after(steps, recording, versions, question, dependency, began),
-        Kind::Ww | Kind::Wr | Kind::Rw => {
+        DependencyKind::Own => Ok(began),
+        DependencyKind::After => add_after(steps, recording, versions, question, dependency, began),
+        DependencyKind::Ww | DependencyKind::Wr | DependencyKind::Rw => {
             let step = step_of(recording, versions, question.orders, dependency);
             push_step(steps, step)?;
             Ok(None)
@@ -276,11 +276,11 @@ fn are_skews(one: CycleStep, other: CycleStep) -> bool
     ensures no { result ≡ false → one.edge ≡ Rw → other.edge ≡ Rw → ⊥ }
 {
     match one.edge {
-        Edge::Rw => match other.edge {
-            Edge::Rw => true,
-            Edge::Ww | Edge::Wr | Edge::So | Edge::Rt => false,
+        EdgeKind::Rw => match other.edge {
+            EdgeKind::Rw => true,
+            EdgeKind::Ww | EdgeKind::Wr | EdgeKind::So | EdgeKind::Rt => false,
         },
-        Edge::Ww | Edge::Wr | Edge::So | Edge::Rt => false,
+        EdgeKind::Ww | EdgeKind::Wr | EdgeKind::So | EdgeKind::Rt => false,
     }
 }
 
@@ -333,8 +333,8 @@ fn has_clock(steps: &[CycleStep]) -> bool
 {
     for i in 0..steps.len() {
         match steps[i].edge {
-            Edge::Rt => return true,
-            Edge::Ww | Edge::Wr | Edge::Rw | Edge::So => {}
+            EdgeKind::Rt => return true,
+            EdgeKind::Ww | EdgeKind::Wr | EdgeKind::Rw | EdgeKind::So => {}
         }
     }
     false
@@ -347,8 +347,8 @@ fn has_process(steps: &[CycleStep]) -> bool
 {
     for i in 0..steps.len() {
         match steps[i].edge {
-            Edge::So => return true,
-            Edge::Ww | Edge::Wr | Edge::Rw | Edge::Rt => {}
+            EdgeKind::So => return true,
+            EdgeKind::Ww | EdgeKind::Wr | EdgeKind::Rw | EdgeKind::Rt => {}
         }
     }
     false

@@ -1,7 +1,7 @@
 //! Versions of a chain that come one right behind the other.
 ghost use Rattle.std.specs.Prelude.{◌≡◌, ◌≢◌, ℕ, ◌<◌, ◌≤◌, List, length, false, Contains, IfOk, IsTrue, slice_index};
 ghost use Rattle.tx_recording.specs.Recordings.{IsRecording};
-ghost use Rattle.tx_views.specs.declared.view.View.{View};
+ghost use Rattle.tx_views.specs.declared.view.RecordedView.{RecordedView};
 ghost use Rattle.tx_views.specs.Views.{IsViewOf};
 ghost use Rattle.tx_views.specs.Owners.{AreOwners};
 ghost use Rattle.tx_history.specs.Records.{IsRecorded, writers_of};
@@ -14,7 +14,7 @@ use crate::necessity::is_known;
 use crate::versions::{Base, Versions};
 use std::alloc::{AllocError, Global};
 use tx_recording::Recording;
-use tx_views::{Owner, View};
+use tx_views::{Owner, RecordedView};
 
 /// Versions of a chain, from the one at a place to the one at another.
 #[derive(Clone, Copy, Debug, PartialEq, Eq)]
@@ -28,14 +28,14 @@ pub struct Stretch {
 pub(crate) fn has_written(
     recording: &Recording,
     owners: &[Option<Owner>],
-    views: &[View],
+    views: &[RecordedView],
     versions: &Versions,
     txn: u32,
     key: u32,
 ) -> bool
     requires recording { IsRecording recording.now }
     requires owners { AreOwners recording.now owners.now }
-    requires views { (v : View) → Contains views.now v → IsViewOf recording.now v }
+    requires views { (v : RecordedView) → Contains views.now v → IsViewOf recording.now v }
     ensures { IsTrue result → HasWritten recording.now txn key }
 {
     if txn as usize >= recording.transactions.len() {
@@ -52,7 +52,7 @@ pub(crate) fn is_next_in(
     alloc: Global,
     recording: &Recording,
     owners: &[Option<Owner>],
-    views: &[View],
+    views: &[RecordedView],
     versions: &Versions,
     chain: u32,
     place: u32,
@@ -62,7 +62,7 @@ pub(crate) fn is_next_in(
 ) -> Result<bool, AllocError>
     requires recording { IsRecording recording.now }
     requires owners { AreOwners recording.now owners.now }
-    requires views { (v : View) → Contains views.now v → IsViewOf recording.now v }
+    requires views { (v : RecordedView) → Contains views.now v → IsViewOf recording.now v }
     requires history { IsRecorded versions.now.recorded }
     ensures { IfOk result (λ is. IsTrue is → IsNext recording.now key first second) }
 {
@@ -91,7 +91,7 @@ fn is_row(
     alloc: Global,
     recording: &Recording,
     owners: &[Option<Owner>],
-    views: &[View],
+    views: &[RecordedView],
     versions: &Versions,
     writers: &[u32],
     chain: u32,
@@ -100,7 +100,7 @@ fn is_row(
 ) -> Result<bool, AllocError>
     requires recording { IsRecording recording.now }
     requires owners { AreOwners recording.now owners.now }
-    requires views { (v : View) → Contains views.now v → IsViewOf recording.now v }
+    requires views { (v : RecordedView) → Contains views.now v → IsViewOf recording.now v }
     requires within { count ≤ length writers.now }
     ensures { IfOk result (λ is. IsTrue is → (i : ℕ) → i < count
         → HasWritten recording.now (slice_index writers.now i) key × IsBased recording.now key writers.now i) }
@@ -123,7 +123,7 @@ pub(crate) fn is_behind_in(
     alloc: Global,
     recording: &Recording,
     owners: &[Option<Owner>],
-    views: &[View],
+    views: &[RecordedView],
     versions: &Versions,
     chain: u32,
     count: u32,
@@ -133,7 +133,7 @@ pub(crate) fn is_behind_in(
 ) -> Result<bool, AllocError>
     requires recording { IsRecording recording.now }
     requires owners { AreOwners recording.now owners.now }
-    requires views { (v : View) → Contains views.now v → IsViewOf recording.now v }
+    requires views { (v : RecordedView) → Contains views.now v → IsViewOf recording.now v }
     requires history { IsRecorded versions.now.recorded }
     ensures { IfOk result (λ is. IsTrue is → IsBehind recording.now key first second) }
 {
@@ -163,7 +163,7 @@ fn is_linked(
     alloc: Global,
     recording: &Recording,
     owners: &[Option<Owner>],
-    views: &[View],
+    views: &[RecordedView],
     versions: &Versions,
     writers: &[u32],
     base: Base,
@@ -174,7 +174,7 @@ fn is_linked(
 ) -> Result<bool, AllocError>
     requires recording { IsRecording recording.now }
     requires owners { AreOwners recording.now owners.now }
-    requires views { (v : View) → Contains views.now v → IsViewOf recording.now v }
+    requires views { (v : RecordedView) → Contains views.now v → IsViewOf recording.now v }
     requires within { place < length writers.now }
     ensures { IfOk result (λ is. IsTrue is → HasWritten recording.now (slice_index writers.now place) key
         × (slice_index writers.now place ≢ other)
@@ -199,7 +199,7 @@ pub(crate) fn is_train(
     alloc: Global,
     recording: &Recording,
     owners: &[Option<Owner>],
-    views: &[View],
+    views: &[RecordedView],
     versions: &Versions,
     stretch: Stretch,
     key: u32,
@@ -209,7 +209,7 @@ pub(crate) fn is_train(
 ) -> Result<bool, AllocError>
     requires recording { IsRecording recording.now }
     requires owners { AreOwners recording.now owners.now }
-    requires views { (v : View) → Contains views.now v → IsViewOf recording.now v }
+    requires views { (v : RecordedView) → Contains views.now v → IsViewOf recording.now v }
     requires history { IsRecorded versions.now.recorded }
     ensures { IfOk result (λ is. IsTrue is
         → (ws : List ℕ) × (n : ℕ) × IsTrain recording.now key ws n first last other) }

@@ -13,7 +13,7 @@ pub struct Timestamps {
 
 /// Why one transaction comes before another.
 #[derive(Clone, Copy, Debug, PartialEq, Eq)]
-pub enum Edge {
+pub enum EdgeKind {
     /// It put what the other put something behind.
     Ww,
     /// It put what the other saw.
@@ -30,7 +30,7 @@ pub enum Edge {
 #[derive(Clone, Copy, Debug, PartialEq, Eq)]
 pub struct CycleStep {
     pub from: u32,
-    pub edge: Edge,
+    pub edge: EdgeKind,
     /// None for the orders of processes and of the clock.
     pub key: Option<u32>,
     pub to: u32,
@@ -87,7 +87,7 @@ pub struct Fact {
 
 /// Whether a recording is of the level that is asked for.
 #[derive(Debug, Drop)]
-pub enum Verdict {
+pub enum HistoryVerdict {
     /// It is, under these timestamps.
     Yes(Timestamps),
     /// It is not, by a cycle.

@@ -25,7 +25,7 @@ pub enum Base {
 
 /// Two views of the same, of two that both put into the key.
 #[derive(Clone, Copy, Debug, PartialEq, Eq)]
-pub struct Lost {
+pub struct LostUpdate {
     pub first: u32,
     pub second: u32,
 }

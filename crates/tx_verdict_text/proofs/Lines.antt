@@ -6,7 +6,7 @@ use Rattle.std.specs.Str.{is_utf8}
 use Rattle.serde_json.specs.Data.{string, null}
 use Rattle.tx_text.specs.Texts.{text_of}
 use Rattle.tx_verdict.specs.declared.verdict.CycleStep.{CycleStep}
-use Rattle.tx_verdict.specs.declared.verdict.Edge.TheVariants.{Ww}
+use Rattle.tx_verdict.specs.declared.verdict.EdgeKind.TheVariants.{Ww}
 
 -- what stands past the end of steps
 abbrev pub no_step : CycleStep

@@ -9,8 +9,8 @@ use Rattle.tx_text.specs.Members.{reply_text}
 use Rattle.tx_text.specs.Faults.{fault_words}
 use Rattle.tx_verdict.specs.declared.anomaly.Anomaly.{Anomaly}
 use Rattle.tx_verdict.specs.declared.anomaly.Anomaly.TheVariants.{G0, G1c, LostUpdate, GSingle, LongFork, GNonadjacent, G2Item}
-use Rattle.tx_verdict.specs.declared.verdict.Edge.{Edge}
-use Rattle.tx_verdict.specs.declared.verdict.Edge.TheVariants.{Ww, Wr, Rw, So, Rt}
+use Rattle.tx_verdict.specs.declared.verdict.EdgeKind.{EdgeKind}
+use Rattle.tx_verdict.specs.declared.verdict.EdgeKind.TheVariants.{Ww, Wr, Rw, So, Rt}
 use Rattle.tx_verdict.specs.declared.verdict.Beside.{Beside}
 use Rattle.tx_verdict.specs.declared.verdict.Beside.TheVariants.{Nothing, Processes, Clock}
 use Rattle.tx_verdict.specs.declared.verdict.CycleStep.{CycleStep}
@@ -18,18 +18,18 @@ use Rattle.tx_verdict.specs.declared.verdict.Cycle.{Cycle}
 use Rattle.tx_verdict.specs.declared.verdict.Rule.{Rule}
 use Rattle.tx_verdict.specs.declared.verdict.Rule.TheVariants as rule
 use Rattle.tx_verdict.specs.declared.verdict.Fact.{Fact}
-use Rattle.tx_verdict.specs.declared.refutation.Order.{Order}
+use Rattle.tx_verdict.specs.declared.refutation.WriteOrder.{WriteOrder}
 use Rattle.tx_verdict.specs.declared.refutation.Settled.{Settled}
 use Rattle.tx_verdict.specs.declared.refutation.Hint.{Hint}
 use Rattle.tx_verdict.specs.declared.refutation.Lemma.{Lemma}
 use Rattle.tx_verdict.specs.declared.refutation.Refutation.{Refutation}
-use Rattle.tx_verdict.specs.declared.verdict.Verdict.{Verdict}
-use Rattle.tx_verdict.specs.declared.verdict.Verdict.TheVariants as verdict
+use Rattle.tx_verdict.specs.declared.verdict.HistoryVerdict.{HistoryVerdict}
+use Rattle.tx_verdict.specs.declared.verdict.HistoryVerdict.TheVariants as verdict
 use Rattle.tx_import.specs.declared.name.Name.{Name}
 use Rattle.tx_import.specs.declared.name.Name.TheVariants.{Text, Number}
 use Rattle.tx_import.specs.declared.name.Scalar.{Scalar}
 use Rattle.tx_import.specs.declared.name.Scalar.TheVariants as scalar
-use Rattle.tx_import.specs.declared.reader.History.{History}
+use Rattle.tx_import.specs.declared.reader.NamedHistory.{NamedHistory}
 
 -- a name, as it was read
 abbrev pub name_data : Name → Data
@@ -53,34 +53,34 @@ abbrev pub or_null : Option Data → Data
 or_null None = null
 or_null (Some d) = d
 
-abbrev pub key_data : History → ℕ → Data
+abbrev pub key_data : NamedHistory → ℕ → Data
 key_data h k = or_null (option_map name_data (slice_get h.tables.keys k))
 
-abbrev pub value_data : History → ℕ → Data
+abbrev pub value_data : NamedHistory → ℕ → Data
 value_data h v = or_null (option_map (λ kv. scalar_data kv.value) (slice_get h.tables.values v))
 
-abbrev pub process_data : History → ℕ → Data
+abbrev pub process_data : NamedHistory → ℕ → Data
 process_data h p = or_null (option_map name_data (slice_get h.tables.processes p))
 
 -- the id of a transaction, null where there is none
-abbrev pub id_data : History → ℕ → Data
+abbrev pub id_data : NamedHistory → ℕ → Data
 id_data h t = or_null (option_map (λ x. number (unsigned x.id)) (slice_get h.recording.transactions.items t))
 
 -- what is not known is null
-abbrev pub known_key : History → Option ℕ → Data
+abbrev pub known_key : NamedHistory → Option ℕ → Data
 known_key h None = null
 known_key h (Some k) = key_data h k
 
-abbrev pub known_value : History → Option ℕ → Data
+abbrev pub known_value : NamedHistory → Option ℕ → Data
 known_value h None = null
 known_value h (Some v) = value_data h v
 
-abbrev pub known_id : History → Option ℕ → Data
+abbrev pub known_id : NamedHistory → Option ℕ → Data
 known_id h None = null
 known_id h (Some t) = id_data h t
 
 -- the word of an edge
-abbrev pub edge_word : Edge → List ℕ
+abbrev pub edge_word : EdgeKind → List ℕ
 edge_word Ww = codes "ww"
 edge_word Wr = codes "wr"
 edge_word Rw = codes "rw"
@@ -119,56 +119,56 @@ rule_word rule.Duplicate = codes "duplicate"
 rule_word rule.LostUpdate = codes "lost-update"
 
 -- a step of a cycle: `[id,edge,key,id]`
-abbrev pub step_data : History → CycleStep → Data
+abbrev pub step_data : NamedHistory → CycleStep → Data
 step_data h s = array (item (id_data h s.from) (item (string (edge_word s.edge))
     (item (known_key h s.key) (item (id_data h s.to) no_items))))
 
 -- steps, one after the other
-abbrev pub steps_data : History → List CycleStep → Data
+abbrev pub steps_data : NamedHistory → List CycleStep → Data
 steps_data h steps = array (items_of (map (step_data h) steps))
 
 -- an order that is settled: `[key,id,id,steps]`, where the steps are of the opposite order
-abbrev pub settled_data : History → Settled → Data
+abbrev pub settled_data : NamedHistory → Settled → Data
 settled_data h f = array (item (key_data h f.order.key) (item (id_data h f.order.first)
     (item (id_data h f.order.second) (item (steps_data h f.round.items) no_items))))
 
 -- an order: `[key,id,id]`
-abbrev pub order_data : History → Order → Data
+abbrev pub order_data : NamedHistory → WriteOrder → Data
 order_data h o = array (item (key_data h o.key) (item (id_data h o.first) (item (id_data h o.second) no_items)))
 
 -- orders, one of which holds
-abbrev pub clause_data : History → List Order → Data
+abbrev pub clause_data : NamedHistory → List WriteOrder → Data
 clause_data h os = array (items_of (map (order_data h) os))
 
 -- what is left of a clause: `[n,order]`, where n is its number from 1 on
-abbrev pub hint_data : History → Hint → Data
+abbrev pub hint_data : NamedHistory → Hint → Data
 hint_data h n = array (item (number (unsigned (n.lemma + 1))) (item (order_data h n.order) no_items))
 
-abbrev pub hints_data : History → List Hint → Data
+abbrev pub hints_data : NamedHistory → List Hint → Data
 hints_data h ns = array (items_of (map (hint_data h) ns))
 
 -- a clause: `[orders,hints,steps]`
-abbrev pub lemma_data : History → Lemma → Data
+abbrev pub lemma_data : NamedHistory → Lemma → Data
 lemma_data h l = array (item (clause_data h l.clause.items) (item (hints_data h l.hints.items)
     (item (steps_data h l.round.items) no_items)))
 
 -- the orders that are settled
-abbrev pub facts_data : History → Refutation → Data
+abbrev pub facts_data : NamedHistory → Refutation → Data
 facts_data h x = array (items_of (map (settled_data h) x.facts.items))
 
 -- a refutation: the orders that are settled, and the last round; where there are clauses, these and
 -- what is left of them stand between
-abbrev pub told_items : History → Refutation → List Lemma → Items
+abbrev pub told_items : NamedHistory → Refutation → List Lemma → Items
 told_items h x [] = item (string (codes "order")) (item (facts_data h x) (item (steps_data h x.last.items) no_items))
 told_items h x (l ∷ ls) = item (string (codes "order")) (item (facts_data h x)
     (item (array (items_of (map (lemma_data h) (l ∷ ls)))) (item (hints_data h x.hints.items)
     (item (steps_data h x.last.items) no_items))))
 
-abbrev pub refuted_items : History → Refutation → Items
+abbrev pub refuted_items : NamedHistory → Refutation → Items
 refuted_items h x = told_items h x x.lemmas.items
 
 -- what is told of a read that cannot be
-abbrev pub fact_members : History → Fact → Members
+abbrev pub fact_members : NamedHistory → Fact → Members
 fact_members h f = member (codes "txn") (id_data h f.txn) (member (codes "key") (key_data h f.key)
     (member (codes "value") (known_value h f.value) (member (codes "by") (known_id h f.by) no_members)))
 
@@ -177,12 +177,12 @@ abbrev pub answer_words : List ℕ → Items → Items
 answer_words word more = item (string (codes "import")) (item (string word) more)
 
 -- how many transactions there are
-abbrev pub yes_members : History → Members
+abbrev pub yes_members : NamedHistory → Members
 yes_members h = member (codes "transactions") (number (unsigned (length h.recording.transactions.items))) no_members
 
 -- the line of a verdict: of a value that is given twice, the fault of the line that does so the
 -- second time
-abbrev pub verdict_text : History → Verdict → List ℕ
+abbrev pub verdict_text : NamedHistory → HistoryVerdict → List ℕ
 verdict_text h (verdict.Yes t) = line_text (answer_words (codes "yes") (item (object (yes_members h)) no_items))
 verdict_text h (verdict.No c) = line_text (answer_words (codes "no") (item (string (cycle_word c))
     (item (array (items_of (map (step_data h) c.steps.items))) no_items)))

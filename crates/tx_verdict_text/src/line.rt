@@ -9,13 +9,17 @@ ghost use Rattle.tx_verdict_text.specs.Words.{step_data, steps_data, settled_dat
 use crate::refutation::put_searched;
 use crate::words::{cycle_word, edge_word, put_id, put_key, put_value, rule_word};
 use std::alloc::{AllocError, Global};
-use tx_import::History;
+use tx_import::NamedHistory;
 use tx_text::{put_digits, put_fault, put_string};
 use tx_types::Cause;
-use tx_verdict::{Cycle, CycleStep, Edge, Fact, Refutation, Rule, Settled, Verdict};
+use tx_verdict::{Cycle, CycleStep, EdgeKind, Fact, HistoryVerdict, Refutation, Rule, Settled};
 
 // Appends the name of a key, where there is one.
-fn put_known_key(out: &mut Vec<u8>, history: &History, key: Option<u32>) -> Result<(), AllocError>
+fn put_known_key(
+    out: &mut Vec<u8>,
+    history: &NamedHistory,
+    key: Option<u32>,
+) -> Result<(), AllocError>
     ensures { OnOk result (out.new.items ≡ out.old.items ++ compact_text (known_key history.now key)) }
 {
     match key {
@@ -25,7 +29,7 @@ fn put_known_key(out: &mut Vec<u8>, history: &History, key: Option<u32>) -> Resu
 }
 
 // Appends the word of an edge.
-fn put_edge(out: &mut Vec<u8>, edge: Edge) -> Result<(), AllocError>
+fn put_edge(out: &mut Vec<u8>, edge: EdgeKind) -> Result<(), AllocError>
     ensures { OnOk result (out.new.items ≡ out.old.items ++ compact_text (string (word_of_edge edge))) }
 {
     put_string(out, edge_word(edge).as_bytes())
@@ -46,7 +50,7 @@ fn put_rule(out: &mut Vec<u8>, rule: Rule) -> Result<(), AllocError>
 }
 
 // Appends a step of a cycle.
-fn put_step(out: &mut Vec<u8>, history: &History, step: &CycleStep) -> Result<(), AllocError>
+fn put_step(out: &mut Vec<u8>, history: &NamedHistory, step: &CycleStep) -> Result<(), AllocError>
     ensures { OnOk result (out.new.items ≡ out.old.items ++ compact_text (step_data history.now step.now)) }
 {
     out.extend_from_slice(b"[")?;
@@ -63,7 +67,7 @@ fn put_step(out: &mut Vec<u8>, history: &History, step: &CycleStep) -> Result<()
 // Appends steps, each with a comma before it.
 fn put_more_steps(
     out: &mut Vec<u8>,
-    history: &History,
+    history: &NamedHistory,
     steps: &[CycleStep],
 ) -> Result<(), AllocError>
     ensures { OnOk result (out.new.items ≡ out.old.items
@@ -77,7 +81,11 @@ fn put_more_steps(
 }
 
 // Appends the steps of a cycle.
-fn put_steps(out: &mut Vec<u8>, history: &History, steps: &[CycleStep]) -> Result<(), AllocError>
+fn put_steps(
+    out: &mut Vec<u8>,
+    history: &NamedHistory,
+    steps: &[CycleStep],
+) -> Result<(), AllocError>
     ensures { OnOk result (out.new.items ≡ out.old.items
         ++ compact_text (array (items_of (map (step_data history.now) steps.now)))) }
 {
@@ -91,7 +99,7 @@ fn put_steps(out: &mut Vec<u8>, history: &History, steps: &[CycleStep]) -> Resul
 }
 
 // Appends an order that is settled, with its round.
-fn put_settled(out: &mut Vec<u8>, history: &History, fact: &Settled) -> Result<(), AllocError>
+fn put_settled(out: &mut Vec<u8>, history: &NamedHistory, fact: &Settled) -> Result<(), AllocError>
     ensures { OnOk result (out.new.items ≡ out.old.items ++ compact_text (settled_data history.now fact.now)) }
 {
     out.extend_from_slice(b"[")?;
@@ -108,7 +116,7 @@ fn put_settled(out: &mut Vec<u8>, history: &History, fact: &Settled) -> Result<(
 /// Appends the steps of a round.
 pub(crate) fn put_round(
     out: &mut Vec<u8>,
-    history: &History,
+    history: &NamedHistory,
     round: &Vec<CycleStep>,
 ) -> Result<(), AllocError>
     ensures { OnOk result (out.new.items ≡ out.old.items ++ compact_text (steps_data history.now round.now.items)) }
@@ -119,7 +127,7 @@ pub(crate) fn put_round(
 // Appends orders that are settled, each with a comma before it.
 fn put_more_settled(
     out: &mut Vec<u8>,
-    history: &History,
+    history: &NamedHistory,
     facts: &[Settled],
 ) -> Result<(), AllocError>
     ensures { OnOk result (out.new.items ≡ out.old.items
@@ -135,7 +143,7 @@ fn put_more_settled(
 /// Appends the orders that are settled.
 pub(crate) fn put_all_settled(
     out: &mut Vec<u8>,
-    history: &History,
+    history: &NamedHistory,
     facts: &[Settled],
 ) -> Result<(), AllocError>
     ensures { OnOk result (out.new.items ≡ out.old.items
@@ -151,7 +159,7 @@ pub(crate) fn put_all_settled(
 }
 
 // Appends keys, each with a comma before it.
-fn put_more_keys(out: &mut Vec<u8>, history: &History, keys: &[u32]) -> Result<(), AllocError>
+fn put_more_keys(out: &mut Vec<u8>, history: &NamedHistory, keys: &[u32]) -> Result<(), AllocError>
     ensures { OnOk result (out.new.items ≡ out.old.items
         ++ members_text (items_of (map (key_data history.now) keys.now))) }
 {
@@ -163,7 +171,7 @@ fn put_more_keys(out: &mut Vec<u8>, history: &History, keys: &[u32]) -> Result<(
 }
 
 // Appends a list of keys.
-fn put_keys(out: &mut Vec<u8>, history: &History, keys: &[u32]) -> Result<(), AllocError>
+fn put_keys(out: &mut Vec<u8>, history: &NamedHistory, keys: &[u32]) -> Result<(), AllocError>
     ensures { OnOk result (out.new.items ≡ out.old.items
         ++ compact_text (array (items_of (map (key_data history.now) keys.now)))) }
 {
@@ -179,7 +187,7 @@ fn put_keys(out: &mut Vec<u8>, history: &History, keys: &[u32]) -> Result<(), Al
 /// Appends the name of a value, where it is known.
 pub fn put_known_value(
     out: &mut Vec<u8>,
-    history: &History,
+    history: &NamedHistory,
     value: Option<u32>,
 ) -> Result<(), AllocError>
     ensures { OnOk result (out.new.items ≡ out.old.items ++ compact_text (known_value history.now value)) }
@@ -191,7 +199,11 @@ pub fn put_known_value(
 }
 
 // Appends the id of a transaction, where it is known.
-fn put_known_id(out: &mut Vec<u8>, history: &History, txn: Option<u32>) -> Result<(), AllocError>
+fn put_known_id(
+    out: &mut Vec<u8>,
+    history: &NamedHistory,
+    txn: Option<u32>,
+) -> Result<(), AllocError>
     ensures { OnOk result (out.new.items ≡ out.old.items ++ compact_text (known_id history.now txn)) }
 {
     match txn {
@@ -202,7 +214,7 @@ fn put_known_id(out: &mut Vec<u8>, history: &History, txn: Option<u32>) -> Resul
 
 // Appends what is told of a read that cannot be.
 #[tactic(auto, unfolding(json::specs::Print::escape_byte))]
-fn put_fact(out: &mut Vec<u8>, history: &History, fact: Fact) -> Result<(), AllocError>
+fn put_fact(out: &mut Vec<u8>, history: &NamedHistory, fact: Fact) -> Result<(), AllocError>
     ensures { OnOk result (out.new.items ≡ out.old.items ++ compact_text (object (fact_members history.now fact))) }
 {
     out.extend_from_slice(b"{\"txn\":")?;
@@ -218,7 +230,7 @@ fn put_fact(out: &mut Vec<u8>, history: &History, fact: Fact) -> Result<(), Allo
 
 // Appends the line of a yes.
 #[tactic(auto, unfolding(json::specs::Print::escape_byte))]
-fn put_yes(out: &mut Vec<u8>, history: &History) -> Result<(), AllocError>
+fn put_yes(out: &mut Vec<u8>, history: &NamedHistory) -> Result<(), AllocError>
     ensures { OnOk result (out.new.items ≡ out.old.items ++ line_text (answer_words (codes "yes")
         (item (object (yes_members history.now)) no_items))) }
 {
@@ -229,7 +241,7 @@ fn put_yes(out: &mut Vec<u8>, history: &History) -> Result<(), AllocError>
 
 // Appends the line of a cycle.
 #[tactic(auto, unfolding(json::specs::Print::escape_byte))]
-fn put_cycle(out: &mut Vec<u8>, history: &History, cycle: &Cycle) -> Result<(), AllocError>
+fn put_cycle(out: &mut Vec<u8>, history: &NamedHistory, cycle: &Cycle) -> Result<(), AllocError>
     ensures { OnOk result (out.new.items ≡ out.old.items ++ line_text (answer_words (codes "no")
         (item (string (word_of_cycle cycle.now))
         (item (array (items_of (map (step_data history.now) cycle.now.steps.items))) no_items)))) }
@@ -245,7 +257,7 @@ fn put_cycle(out: &mut Vec<u8>, history: &History, cycle: &Cycle) -> Result<(), 
 #[tactic(auto, unfolding(json::specs::Print::escape_byte))]
 fn put_refuted(
     out: &mut Vec<u8>,
-    history: &History,
+    history: &NamedHistory,
     refutation: &Refutation,
 ) -> Result<(), AllocError>
     requires { length refutation.now.lemmas.items ≡ 0 }
@@ -262,7 +274,7 @@ fn put_refuted(
 // Appends the line of a refutation.
 fn put_refutation(
     out: &mut Vec<u8>,
-    history: &History,
+    history: &NamedHistory,
     refutation: &Refutation,
 ) -> Result<(), AllocError>
     ensures { OnOk result (out.new.items ≡ out.old.items ++ line_text (answer_words (codes "no")
@@ -276,7 +288,7 @@ fn put_refutation(
 
 // Appends the line of a read that cannot be.
 #[tactic(auto, unfolding(json::specs::Print::escape_byte))]
-fn put_fact_line(out: &mut Vec<u8>, history: &History, fact: Fact) -> Result<(), AllocError>
+fn put_fact_line(out: &mut Vec<u8>, history: &NamedHistory, fact: Fact) -> Result<(), AllocError>
     ensures { OnOk result (out.new.items ≡ out.old.items ++ line_text (answer_words (codes "no")
         (item (string (word_of_rule fact.rule)) (item (object (fact_members history.now fact)) no_items)))) }
 {
@@ -289,7 +301,7 @@ fn put_fact_line(out: &mut Vec<u8>, history: &History, fact: Fact) -> Result<(),
 
 // Appends the line of what is open.
 #[tactic(auto, unfolding(json::specs::Print::escape_byte))]
-fn put_open(out: &mut Vec<u8>, history: &History, keys: &[u32]) -> Result<(), AllocError>
+fn put_open(out: &mut Vec<u8>, history: &NamedHistory, keys: &[u32]) -> Result<(), AllocError>
     ensures { OnOk result (out.new.items ≡ out.old.items ++ line_text (answer_words (codes "open")
         (item (array (items_of (map (key_data history.now) keys.now))) no_items))) }
 {
@@ -301,20 +313,20 @@ fn put_open(out: &mut Vec<u8>, history: &History, keys: &[u32]) -> Result<(), Al
 /// The line that says a verdict, with its newline.
 pub fn verdict_line(
     alloc: Global,
-    history: &History,
-    verdict: &Verdict,
+    history: &NamedHistory,
+    verdict: &HistoryVerdict,
 ) -> Result<Vec<u8>, AllocError>
     ensures { IfOk result (λ text. text.items ≡ verdict_text history.now verdict.now) }
 {
     let mut out = Vec::new(alloc);
     match verdict {
-        Verdict::Yes(_) => put_yes(&mut out, history)?,
-        Verdict::No(cycle) => put_cycle(&mut out, history, cycle)?,
-        Verdict::Refuted(refutation) => put_refutation(&mut out, history, refutation)?,
-        Verdict::Fact(fact) => put_fact_line(&mut out, history, *fact)?,
-        Verdict::Open(keys) => put_open(&mut out, history, keys.as_slice())?,
-        Verdict::Unknown => put_open(&mut out, history, &[])?,
-        Verdict::Twice(_, second, _) => {
+        HistoryVerdict::Yes(_) => put_yes(&mut out, history)?,
+        HistoryVerdict::No(cycle) => put_cycle(&mut out, history, cycle)?,
+        HistoryVerdict::Refuted(refutation) => put_refutation(&mut out, history, refutation)?,
+        HistoryVerdict::Fact(fact) => put_fact_line(&mut out, history, *fact)?,
+        HistoryVerdict::Open(keys) => put_open(&mut out, history, keys.as_slice())?,
+        HistoryVerdict::Unknown => put_open(&mut out, history, &[])?,
+        HistoryVerdict::Twice(_, second, _) => {
             put_fault(&mut out, u64::from(*second) + 1, Cause::Form)?;
         }
     }

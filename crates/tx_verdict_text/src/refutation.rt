@@ -9,12 +9,12 @@ ghost use Rattle.tx_verdict_text.specs.Words.{order_data, clause_data, hint_data
 use crate::line::{put_all_settled, put_round};
 use crate::words::{put_id, put_key};
 use std::alloc::AllocError;
-use tx_import::History;
+use tx_import::NamedHistory;
 use tx_text::put_digits;
-use tx_verdict::{Hint, Lemma, Order, Refutation};
+use tx_verdict::{Hint, Lemma, Refutation, WriteOrder};
 
 // Appends an order.
-fn put_order(out: &mut Vec<u8>, history: &History, order: Order) -> Result<(), AllocError>
+fn put_order(out: &mut Vec<u8>, history: &NamedHistory, order: WriteOrder) -> Result<(), AllocError>
     ensures { OnOk result (out.new.items ≡ out.old.items ++ compact_text (order_data history.now order)) }
 {
     out.extend_from_slice(b"[")?;
@@ -27,7 +27,11 @@ fn put_order(out: &mut Vec<u8>, history: &History, order: Order) -> Result<(), A
 }
 
 // Appends orders, each with a comma before it.
-fn put_more_orders(out: &mut Vec<u8>, history: &History, orders: &[Order]) -> Result<(), AllocError>
+fn put_more_orders(
+    out: &mut Vec<u8>,
+    history: &NamedHistory,
+    orders: &[WriteOrder],
+) -> Result<(), AllocError>
     ensures { OnOk result (out.new.items ≡ out.old.items
         ++ members_text (items_of (map (order_data history.now) orders.now))) }
 {
@@ -39,7 +43,11 @@ fn put_more_orders(out: &mut Vec<u8>, history: &History, orders: &[Order]) -> Re
 }
 
 // Appends the orders of a clause.
-fn put_orders(out: &mut Vec<u8>, history: &History, orders: &[Order]) -> Result<(), AllocError>
+fn put_orders(
+    out: &mut Vec<u8>,
+    history: &NamedHistory,
+    orders: &[WriteOrder],
+) -> Result<(), AllocError>
     ensures { OnOk result (out.new.items ≡ out.old.items
         ++ compact_text (array (items_of (map (order_data history.now) orders.now)))) }
 {
@@ -60,7 +68,7 @@ fn put_number(out: &mut Vec<u8>, lemma: u32) -> Result<(), AllocError>
 }
 
 // Appends what is left of a clause.
-fn put_hint(out: &mut Vec<u8>, history: &History, hint: Hint) -> Result<(), AllocError>
+fn put_hint(out: &mut Vec<u8>, history: &NamedHistory, hint: Hint) -> Result<(), AllocError>
     ensures { OnOk result (out.new.items ≡ out.old.items ++ compact_text (hint_data history.now hint)) }
 {
     out.extend_from_slice(b"[")?;
@@ -71,7 +79,11 @@ fn put_hint(out: &mut Vec<u8>, history: &History, hint: Hint) -> Result<(), Allo
 }
 
 // Appends what is left of clauses, each with a comma before it.
-fn put_more_hints(out: &mut Vec<u8>, history: &History, hints: &[Hint]) -> Result<(), AllocError>
+fn put_more_hints(
+    out: &mut Vec<u8>,
+    history: &NamedHistory,
+    hints: &[Hint],
+) -> Result<(), AllocError>
     ensures { OnOk result (out.new.items ≡ out.old.items
         ++ members_text (items_of (map (hint_data history.now) hints.now))) }
 {
@@ -83,7 +95,7 @@ fn put_more_hints(out: &mut Vec<u8>, history: &History, hints: &[Hint]) -> Resul
 }
 
 // Appends what is left of clauses.
-fn put_hints(out: &mut Vec<u8>, history: &History, hints: &[Hint]) -> Result<(), AllocError>
+fn put_hints(out: &mut Vec<u8>, history: &NamedHistory, hints: &[Hint]) -> Result<(), AllocError>
     ensures { OnOk result (out.new.items ≡ out.old.items
         ++ compact_text (array (items_of (map (hint_data history.now) hints.now)))) }
 {
@@ -97,21 +109,25 @@ fn put_hints(out: &mut Vec<u8>, history: &History, hints: &[Hint]) -> Result<(),
 }
 
 // Appends the orders of a lemma.
-fn put_clause(out: &mut Vec<u8>, history: &History, clause: &Vec<Order>) -> Result<(), AllocError>
+fn put_clause(
+    out: &mut Vec<u8>,
+    history: &NamedHistory,
+    clause: &Vec<WriteOrder>,
+) -> Result<(), AllocError>
     ensures { OnOk result (out.new.items ≡ out.old.items ++ compact_text (clause_data history.now clause.now.items)) }
 {
     put_orders(out, history, clause.as_slice())
 }
 
 // Appends what is left of clauses, of a list.
-fn put_list(out: &mut Vec<u8>, history: &History, hints: &Vec<Hint>) -> Result<(), AllocError>
+fn put_list(out: &mut Vec<u8>, history: &NamedHistory, hints: &Vec<Hint>) -> Result<(), AllocError>
     ensures { OnOk result (out.new.items ≡ out.old.items ++ compact_text (hints_data history.now hints.now.items)) }
 {
     put_hints(out, history, hints.as_slice())
 }
 
 // Appends a clause, with what it follows from.
-fn put_lemma(out: &mut Vec<u8>, history: &History, lemma: &Lemma) -> Result<(), AllocError>
+fn put_lemma(out: &mut Vec<u8>, history: &NamedHistory, lemma: &Lemma) -> Result<(), AllocError>
     ensures { OnOk result (out.new.items ≡ out.old.items ++ compact_text (lemma_data history.now lemma.now)) }
 {
     out.extend_from_slice(b"[")?;
@@ -124,7 +140,11 @@ fn put_lemma(out: &mut Vec<u8>, history: &History, lemma: &Lemma) -> Result<(), 
 }
 
 // Appends clauses, each with a comma before it.
-fn put_more_lemmas(out: &mut Vec<u8>, history: &History, lemmas: &[Lemma]) -> Result<(), AllocError>
+fn put_more_lemmas(
+    out: &mut Vec<u8>,
+    history: &NamedHistory,
+    lemmas: &[Lemma],
+) -> Result<(), AllocError>
     ensures { OnOk result (out.new.items ≡ out.old.items
         ++ members_text (items_of (map (lemma_data history.now) lemmas.now))) }
 {
@@ -136,7 +156,7 @@ fn put_more_lemmas(out: &mut Vec<u8>, history: &History, lemmas: &[Lemma]) -> Re
 }
 
 // Appends clauses.
-fn put_lemmas(out: &mut Vec<u8>, history: &History, lemmas: &[Lemma]) -> Result<(), AllocError>
+fn put_lemmas(out: &mut Vec<u8>, history: &NamedHistory, lemmas: &[Lemma]) -> Result<(), AllocError>
     ensures { OnOk result (out.new.items ≡ out.old.items
         ++ compact_text (array (items_of (map (lemma_data history.now) lemmas.now)))) }
 {
@@ -152,7 +172,7 @@ fn put_lemmas(out: &mut Vec<u8>, history: &History, lemmas: &[Lemma]) -> Result<
 // Appends the orders that are settled.
 fn put_facts(
     out: &mut Vec<u8>,
-    history: &History,
+    history: &NamedHistory,
     refutation: &Refutation,
 ) -> Result<(), AllocError>
     ensures { OnOk result (out.new.items ≡ out.old.items ++ compact_text (facts_data history.now refutation.now)) }
@@ -163,7 +183,7 @@ fn put_facts(
 // Appends the clauses of a refutation.
 fn put_clauses(
     out: &mut Vec<u8>,
-    history: &History,
+    history: &NamedHistory,
     refutation: &Refutation,
 ) -> Result<(), AllocError>
     ensures { OnOk result (out.new.items ≡ out.old.items
@@ -176,7 +196,7 @@ fn put_clauses(
 #[tactic(auto, unfolding(json::specs::Print::escape_byte))]
 pub(crate) fn put_searched(
     out: &mut Vec<u8>,
-    history: &History,
+    history: &NamedHistory,
     refutation: &Refutation,
 ) -> Result<(), AllocError>
     requires { 0 < length refutation.now.lemmas.items }

@@ -7,9 +7,9 @@ ghost use Rattle.tx_verdict_text.specs.Words.{name_data, scalar_data, key_data, 
 
 use itoa::Buffer;
 use std::alloc::AllocError;
-use tx_import::{History, Name, Scalar};
+use tx_import::{Name, NamedHistory, Scalar};
 use tx_text::{put_digits, put_string};
-use tx_verdict::{Anomaly, Beside, Cycle, Edge, Rule};
+use tx_verdict::{Anomaly, Beside, Cycle, EdgeKind, Rule};
 
 // Appends a name, as it was read.
 fn put_name(out: &mut Vec<u8>, name: &Name) -> Result<(), AllocError>
@@ -60,7 +60,7 @@ fn put_scalar(out: &mut Vec<u8>, value: &Scalar) -> Result<(), AllocError>
 }
 
 /// Appends the name of a key.
-pub fn put_key(out: &mut Vec<u8>, history: &History, key: u32) -> Result<(), AllocError>
+pub fn put_key(out: &mut Vec<u8>, history: &NamedHistory, key: u32) -> Result<(), AllocError>
     ensures { OnOk result (out.new.items ≡ out.old.items ++ compact_text (key_data history.now key)) }
 {
     match history.tables.keys.get(key as usize) {
@@ -70,7 +70,7 @@ pub fn put_key(out: &mut Vec<u8>, history: &History, key: u32) -> Result<(), All
 }
 
 /// Appends a value.
-pub fn put_value(out: &mut Vec<u8>, history: &History, value: u32) -> Result<(), AllocError>
+pub fn put_value(out: &mut Vec<u8>, history: &NamedHistory, value: u32) -> Result<(), AllocError>
     ensures { OnOk result (out.new.items ≡ out.old.items ++ compact_text (value_data history.now value)) }
 {
     match history.tables.values.get(value as usize) {
@@ -80,7 +80,11 @@ pub fn put_value(out: &mut Vec<u8>, history: &History, value: u32) -> Result<(),
 }
 
 /// Appends the name of a process.
-pub fn put_process(out: &mut Vec<u8>, history: &History, process: u32) -> Result<(), AllocError>
+pub fn put_process(
+    out: &mut Vec<u8>,
+    history: &NamedHistory,
+    process: u32,
+) -> Result<(), AllocError>
     ensures { OnOk result (out.new.items ≡ out.old.items ++ compact_text (process_data history.now process)) }
 {
     match history.tables.processes.get(process as usize) {
@@ -90,7 +94,7 @@ pub fn put_process(out: &mut Vec<u8>, history: &History, process: u32) -> Result
 }
 
 /// Appends the id of a transaction.
-pub fn put_id(out: &mut Vec<u8>, history: &History, txn: u32) -> Result<(), AllocError>
+pub fn put_id(out: &mut Vec<u8>, history: &NamedHistory, txn: u32) -> Result<(), AllocError>
     ensures { OnOk result (out.new.items ≡ out.old.items ++ compact_text (id_data history.now txn)) }
 {
     match history.recording.transactions.get(txn as usize) {
@@ -100,15 +104,15 @@ pub fn put_id(out: &mut Vec<u8>, history: &History, txn: u32) -> Result<(), Allo
 }
 
 /// The word of an edge.
-pub fn edge_word(edge: Edge) -> &'static str
+pub fn edge_word(edge: EdgeKind) -> &'static str
     ensures { result.now ≡ word_of_edge edge }
 {
     match edge {
-        Edge::Ww => "ww",
-        Edge::Wr => "wr",
-        Edge::Rw => "rw",
-        Edge::So => "so",
-        Edge::Rt => "rt",
+        EdgeKind::Ww => "ww",
+        EdgeKind::Wr => "wr",
+        EdgeKind::Rw => "rw",
+        EdgeKind::So => "so",
+        EdgeKind::Rt => "rt",
     }
 }
 

@@ -7,8 +7,8 @@ use Rattle.tx_recording.specs.declared.recording.Recording.{Recording}
 use Rattle.tx_recording.specs.declared.recording.Act.TheVariants.{Append, Write, Read}
 use Rattle.tx_recording.specs.declared.recording.Act.{Act}
 use Rattle.tx_recording.specs.Recordings.{IsRecording, IsOpOf, IsActOf, ops_of, txns_of, transaction_at, no_transaction, no_op}
-use Rattle.tx_recording.specs.declared.recording.Op.{Op}
-use Rattle.tx_recording.specs.declared.recording.Transaction.{Transaction}
+use Rattle.tx_recording.specs.declared.recording.RecordedOp.{RecordedOp}
+use Rattle.tx_recording.specs.declared.recording.RecordedTransaction.{RecordedTransaction}
 use Rattle.tx_recording.specs.Explanations.{Puts, op_at, IsPut, ArePutOnce}
 use Rattle.tx_views.specs.declared.owner.Owner.{Owner}
 use Rattle.tx_views.specs.Owners.{IsOwnerOf, IsEarly, Notes, KeepsOwners, AreOwners, owner_at}
@@ -129,7 +129,7 @@ one_of : (r : Recording) (t p : ℕ) → p < length (ops_of r t) → t < txns_of
 one_of r t p lt = elim (cases_lt t (txns_of r)) [
   | inl below ↦ below
   | inr past ↦ absurd (
-      let e = ap (λ (q : Transaction). length (slice_range r.ops.items q.first q.upto))
+      let e = ap (λ (q : RecordedTransaction). length (slice_range r.ops.items q.first q.upto))
       (get_or_past r.transactions.items t no_transaction past) in
       omega (arith, lt, e)
       )
@@ -140,7 +140,7 @@ pub put_by_owner : (r : Recording) (table : List (Option Owner)) (t k v : ℕ) �
     → (p : ℕ) × (owner_at table v ≡ Some record { txn = t; place = p })
 put_by_owner r table t k v owners (o, (p, lt, is), of_key, puts) =
     let same : op_at r t p ≡ o = get_or_default (ops_of r t) p no_op o lt ∙ is in
-    let P : Op → Type 0 = λ q. Puts q.act v in
+    let P : RecordedOp → Type 0 = λ q. Puts q.act v in
     (p, owners.all t (one_of r t p lt) p v lt (subst P (sym same) puts))
 
 pub put_once : (r : Recording) (table : List (Option Owner)) → AreOwners r table → ArePutOnce r
@@ -152,9 +152,9 @@ put_once r table owners t u k l v a b =
     ap (λ (o : Owner). o.txn) same
 
 -- an operation among those of a transaction
-pub own_op : (r : Recording) (ops : List Op) (t p v : ℕ) → ops ≡ ops_of r t → p < length ops
+pub own_op : (r : Recording) (ops : List RecordedOp) (t p v : ℕ) → ops ≡ ops_of r t → p < length ops
     → Puts (get_or ops p no_op).act v
     → (p < length (ops_of r t)) × Puts (op_at r t p).act v
 own_op r ops t p v is lt puts =
-    let P : List Op → Type 0 = λ q. (p < length q) × Puts (get_or q p no_op).act v in
+    let P : List RecordedOp → Type 0 = λ q. (p < length q) × Puts (get_or q p no_op).act v in
     subst P is (lt, puts)

@@ -4,7 +4,7 @@ ghost use Rattle.tx_recording.specs.Explanations.{act_on};
 ghost use Rattle.tx_views.specs.Views.{IsEffect, left_by};
 
 use std::alloc::{AllocError, Global};
-use tx_recording::{Act, Op};
+use tx_recording::{Act, RecordedOp};
 
 /// What operations leave of a key: these values behind those that it holds, or in place of them.
 #[derive(Debug, Drop)]
@@ -31,7 +31,7 @@ fn act_on(effect: &mut Effect, act: Act) -> Result<(), AllocError>
 }
 
 /// What operations leave of a key.
-pub fn effect_of(alloc: Global, ops: &[Op], key: u32) -> Result<Effect, AllocError>
+pub fn effect_of(alloc: Global, ops: &[RecordedOp], key: u32) -> Result<Effect, AllocError>
     ensures { IfOk result (IsEffect ops.now key) }
 {
     let mut effect = Effect {

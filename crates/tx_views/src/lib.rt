@@ -8,4 +8,4 @@ mod view;
 
 pub use effect::{Effect, effect_of};
 pub use owner::{Owned, Owner, Twice, owners};
-pub use view::{View, Viewed, is_end, views};
+pub use view::{RecordedView, Viewed, is_end, views};

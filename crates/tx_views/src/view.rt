@@ -1,13 +1,13 @@
 //! What each transaction saw of a key before it did anything there.
 ghost use Rattle.std.specs.Prelude.{◌≡◌, ◌↔◌, ℕ, ◌+◌, ◌<◌, ◌≤◌, List, length, Contains, OnOk, IfOk, IfSome, IfNone, IsTrue, false, take, drop, slice_index_or};
-ghost use Rattle.tx_recording.specs.declared.recording.Outcome.TheVariants.{Ok as Committed};
+ghost use Rattle.tx_recording.specs.declared.recording.RecordedOutcome.TheVariants.{Ok as Committed};
 ghost use Rattle.tx_recording.specs.Recordings.{IsRecording, txns_of, transaction_at, ops_of, no_op};
 ghost use Rattle.tx_recording.specs.Explanations.{after};
 ghost use Rattle.tx_views.specs.Views.{IsSeen, IsViewed, IsViewOf, IsAnswered, IsInternal};
 
 use crate::effect::effect_of;
 use std::alloc::{AllocError, Global};
-use tx_recording::{Act, Op, Recording, Span};
+use tx_recording::{Act, RecordedOp, Recording, Span};
 
 // What a list that was read says of what the key held before its transaction put anything there.
 #[derive(Clone, Copy)]
@@ -22,7 +22,7 @@ enum Seen {
 
 /// A transaction saw these values in a key, before it put anything there.
 #[derive(Clone, Copy, Debug, PartialEq, Eq)]
-pub struct View {
+pub struct RecordedView {
     pub txn: u32,
     pub key: u32,
     pub span: Span,
@@ -32,7 +32,7 @@ pub struct View {
 #[derive(Debug, Drop)]
 pub enum Viewed {
     /// In the order of the transactions.
-    Views(Vec<View>),
+    Views(Vec<RecordedView>),
     /// The read of this transaction, at this place among its operations, lacks its own values.
     Internal(u32, u32),
 }
@@ -49,7 +49,7 @@ pub fn is_end(list: &[u32], own: &[u32], cut: usize) -> bool
 fn seen_behind(
     alloc: Global,
     recording: &Recording,
-    ops: &[Op],
+    ops: &[RecordedOp],
     key: u32,
     span: Span,
 ) -> Result<Seen, AllocError>
@@ -76,7 +76,7 @@ fn seen_behind(
 }
 
 // How many operations are reads before the first that is not.
-fn first_put(ops: &[Op]) -> usize
+fn first_put(ops: &[RecordedOp]) -> usize
     ensures within { result ≤ length ops.now }
     ensures reads { (p k : ℕ) (xs : List ℕ) → p ≤ result → after (take p ops.now) k xs ≡ xs }
 {
@@ -93,7 +93,7 @@ fn first_put(ops: &[Op]) -> usize
 fn seen_at(
     alloc: Global,
     recording: &Recording,
-    ops: &[Op],
+    ops: &[RecordedOp],
     reads: usize,
     place: usize,
     span: Span,
@@ -114,7 +114,7 @@ fn seen_at(
 // seen what it read.
 fn add_view(
     alloc: Global,
-    views: &mut Vec<View>,
+    views: &mut Vec<RecordedView>,
     recording: &Recording,
     txn: u32,
     reads: usize,
@@ -125,9 +125,9 @@ fn add_view(
     requires ok { (transaction_at recording.now txn).outcome ≡ Committed }
     requires reads { (p k : ℕ) (xs : List ℕ) → p ≤ reads → after (take p (ops_of recording.now txn)) k xs ≡ xs }
     requires place { place < length (ops_of recording.now txn) }
-    requires only { (v : View) → Contains views.old.items v → IsViewOf recording.now v }
-    ensures kept { OnOk result ((v : View) → Contains views.old.items v → Contains views.new.items v) }
-    ensures only { OnOk result ((v : View) → Contains views.new.items v → IsViewOf recording.now v) }
+    requires only { (v : RecordedView) → Contains views.old.items v → IsViewOf recording.now v }
+    ensures kept { OnOk result ((v : RecordedView) → Contains views.old.items v → Contains views.new.items v) }
+    ensures only { OnOk result ((v : RecordedView) → Contains views.new.items v → IsViewOf recording.now v) }
     ensures answered { IfOk result (λ can. IsTrue can → IsAnswered recording.now views.new.items txn place) }
     ensures internal { IfOk result (λ can. can ≡ false → IsInternal recording.now txn place) }
 {
@@ -137,7 +137,7 @@ fn add_view(
     };
     match seen_at(alloc, recording, ops, reads, place, span)? {
         Seen::Base(span) => {
-            views.push(View {
+            views.push(RecordedView {
                 txn,
                 key: ops[place].key,
                 span,
@@ -152,16 +152,16 @@ fn add_view(
 // Adds what the reads of a transaction say, or gives the place of one that it cannot have seen.
 fn add_views(
     alloc: Global,
-    views: &mut Vec<View>,
+    views: &mut Vec<RecordedView>,
     recording: &Recording,
     txn: u32,
 ) -> Result<Option<u32>, AllocError>
     requires recording { IsRecording recording.now }
     requires within { txn < txns_of recording.now }
     requires ok { (transaction_at recording.now txn).outcome ≡ Committed }
-    requires only { (v : View) → Contains views.old.items v → IsViewOf recording.now v }
-    ensures kept { OnOk result ((v : View) → Contains views.old.items v → Contains views.new.items v) }
-    ensures only { OnOk result ((v : View) → Contains views.new.items v → IsViewOf recording.now v) }
+    requires only { (v : RecordedView) → Contains views.old.items v → IsViewOf recording.now v }
+    ensures kept { OnOk result ((v : RecordedView) → Contains views.old.items v → Contains views.new.items v) }
+    ensures only { OnOk result ((v : RecordedView) → Contains views.new.items v → IsViewOf recording.now v) }
     ensures answered { IfOk result (λ found. IfNone found ((p : ℕ) → p < length (ops_of recording.now txn)
         → IsAnswered recording.now views.new.items txn p)) }
     ensures internal { IfOk result (λ found. IfSome found (IsInternal recording.now txn)) }

@@ -8,6 +8,6 @@ mod ways;
 mod web;
 
 pub use lists::Lists;
-pub use reach::{Finds, Found, Taken, groups_of, taken_of};
+pub use reach::{ChainOrder, Finds, TopologicalOrder, groups_of, taken_of};
 pub use ways::{Paths, ends_of, note_used};
-pub use web::{Link, Loose, Web, Why, commit_of, loose_chains, start_of, web_of};
+pub use web::{Link, LinkReason, Loose, Web, commit_of, loose_chains, start_of, web_of};

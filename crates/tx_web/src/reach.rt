@@ -2,7 +2,7 @@
 ghost use Rattle.std.specs.Prelude.{◌<◌};
 
 use crate::lists::Lists;
-use crate::web::{Loose, Web, Why, commit_of, start_of};
+use crate::web::{LinkReason, Loose, Web, commit_of, start_of};
 use std::alloc::{AllocError, Global};
 use tx_chains::{number, put_at};
 
@@ -19,7 +19,7 @@ const MOST_PAIRS: usize = 0x400_0000;
 
 /// That one chain comes before another of its key, by places among those that have none.
 #[derive(Clone, Copy)]
-pub struct Found {
+pub struct ChainOrder {
     pub before: u32,
     pub behind: u32,
     /// How many were found in the rounds before.
@@ -31,7 +31,7 @@ pub struct Found {
 
 /// The nodes of a graph, each behind all that its edges come from, as far as there is no cycle.
 #[derive(Drop)]
-pub struct Taken {
+pub struct TopologicalOrder {
     pub order: Vec<u32>,
     /// By node: how many edges lead to it from nodes that were not taken.
     pub left: Vec<u32>,
@@ -52,7 +52,7 @@ fn count_edges(alloc: Global, web: &Web) -> Result<Vec<u32>, AllocError> {
     Ok(left)
 }
 
-impl Taken {
+impl TopologicalOrder {
     // Passes an edge to a node.
     fn pass(&mut self, node: u32) -> Result<(), AllocError> {
         let Some(count) = self.left.get(node as usize) else {
@@ -93,8 +93,8 @@ impl Taken {
 }
 
 /// The nodes of a graph, each behind all that its edges come from, as far as there is no cycle.
-pub fn taken_of(alloc: Global, web: &Web, by_node: &Lists) -> Result<Taken, AllocError> {
-    let mut taken = Taken {
+pub fn taken_of(alloc: Global, web: &Web, by_node: &Lists) -> Result<TopologicalOrder, AllocError> {
+    let mut taken = TopologicalOrder {
         order: Vec::new(alloc),
         left: count_edges(alloc, web)?,
     };
@@ -288,7 +288,7 @@ impl Marks {
 pub struct Finds<'a> {
     pub web: Web,
     pub loose: &'a [Loose],
-    pub found: Vec<Found>,
+    pub found: Vec<ChainOrder>,
 }
 
 impl Finds<'_> {
@@ -318,7 +318,7 @@ impl Finds<'_> {
             return Ok(());
         }
         let number_of = number(self.found.len());
-        self.found.push(Found {
+        self.found.push(ChainOrder {
             before: number(before),
             behind: number(behind),
             upto,
@@ -327,11 +327,11 @@ impl Finds<'_> {
         if lacks {
             let from = commit_of(one.last);
             self.web
-                .add(from, start_of(other.first), Why::Found(number_of))?;
+                .add(from, start_of(other.first), LinkReason::Found(number_of))?;
         }
         if lacks_readers {
             let to = self.web.writer_node(other.first);
-            self.web.add(node, to, Why::FoundPast(number_of))?;
+            self.web.add(node, to, LinkReason::FoundPast(number_of))?;
         }
         Ok(())
     }

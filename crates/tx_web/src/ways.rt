@@ -1,8 +1,8 @@
 //! Shortest ways and cycles of a graph.
 
 use crate::lists::Lists;
-use crate::reach::Found;
-use crate::web::{Link, Loose, Web, Why, commit_of, start_of};
+use crate::reach::ChainOrder;
+use crate::web::{Link, LinkReason, Loose, Web, commit_of, start_of};
 use std::alloc::{AllocError, Global};
 use tx_chains::{number, put_at};
 
@@ -48,9 +48,9 @@ impl Search {
 
 impl Paths<'_> {
     // Whether an edge may be used.
-    fn may_use(&self, why: Why) -> bool {
+    fn may_use(&self, why: LinkReason) -> bool {
         match why {
-            Why::Found(found) | Why::FoundPast(found) => found < self.below,
+            LinkReason::Found(found) | LinkReason::FoundPast(found) => found < self.below,
             _ => true,
         }
     }
@@ -192,14 +192,18 @@ fn next_in(table: &[Option<u32>], node: u32) -> u32 {
 pub fn note_used(used: &mut [bool], links: &[Link]) {
     for i in 0..links.len() {
         match links[i].why {
-            Why::Found(found) | Why::FoundPast(found) => put_at(used, found as usize, true),
+            LinkReason::Found(found) | LinkReason::FoundPast(found) => put_at(
+                used,
+                found as usize,
+                true,
+            ),
             _ => {}
         }
     }
 }
 
 /// The nodes between which a way shows that the one chain comes before the other.
-pub fn ends_of(web: &Web, loose: &[Loose], found: Found) -> Option<(u32, u32)> {
+pub fn ends_of(web: &Web, loose: &[Loose], found: ChainOrder) -> Option<(u32, u32)> {
     let before = loose.get(found.before as usize)?;
     let behind = loose.get(found.behind as usize)?;
     if found.by_start {

@@ -8,7 +8,7 @@ use tx_verdict::{Base, Behind, Ground, Level, Versions};
 
 /// Why an edge is there.
 #[derive(Clone, Copy)]
-pub enum Why {
+pub enum LinkReason {
     /// It leads from the start of a transaction to its commit.
     Own,
     /// An order that is asked for.
@@ -42,7 +42,7 @@ pub enum Why {
 pub struct Link {
     pub from: u32,
     pub to: u32,
-    pub why: Why,
+    pub why: LinkReason,
 }
 
 /// A chain of which nobody knows the place among the versions of its key.
@@ -101,7 +101,7 @@ impl Web {
     }
 
     /// Adds an edge, if its nodes are there.
-    pub fn add(&mut self, from: u32, to: u32, why: Why) -> Result<(), AllocError> {
+    pub fn add(&mut self, from: u32, to: u32, why: LinkReason) -> Result<(), AllocError> {
         if from < self.nodes && to < self.nodes {
             self.links.push(Link { from, to, why })?;
         }
@@ -131,7 +131,7 @@ fn behind_of(versions: &Versions, chain: u32, place: u32) -> Behind {
 // Adds that each transaction commits behind its start.
 fn add_own(web: &mut Web) -> Result<(), AllocError> {
     for txn in 0..web.txns {
-        web.add(start_of(txn), commit_of(txn), Why::Own)?;
+        web.add(start_of(txn), commit_of(txn), LinkReason::Own)?;
     }
     Ok(())
 }
@@ -140,7 +140,11 @@ fn add_own(web: &mut Web) -> Result<(), AllocError> {
 fn add_after(web: &mut Web, versions: &Versions) -> Result<(), AllocError> {
     for i in 0..versions.recorded.after.len() {
         let pair = versions.recorded.after[i];
-        web.add(commit_of(pair.earlier), start_of(pair.later), Why::After)?;
+        web.add(
+            commit_of(pair.earlier),
+            start_of(pair.later),
+            LinkReason::After,
+        )?;
     }
     Ok(())
 }
@@ -160,7 +164,7 @@ fn add_chain(web: &mut Web, versions: &Versions, chain: u32) -> Result<(), Alloc
     let key = key_of(versions, chain);
     let writers = versions.recorded.writers_of(chain as usize);
     for i in 1..writers.len() {
-        let why = Why::Wrote(key, behind_of(versions, chain, number(i)));
+        let why = LinkReason::Wrote(key, behind_of(versions, chain, number(i)));
         web.add(commit_of(writers[i - 1]), start_of(writers[i]), why)?;
     }
     Ok(())
@@ -191,17 +195,17 @@ fn add_view(web: &mut Web, versions: &Versions, view: usize) -> Result<(), Alloc
     let version = read.version as usize;
     let place = number(view);
     if version > 0 && version <= writers.len() {
-        let why = Why::Saw(key, place);
+        let why = LinkReason::Saw(key, place);
         web.add(commit_of(writers[version - 1]), start_of(read.txn), why)?;
     }
     if version >= writers.len() {
         let node = web.chain_node(read.key);
         let from = web.reader_node(read.txn);
-        return web.add(from, node, Why::Reads(place));
+        return web.add(from, node, LinkReason::Reads(place));
     }
     if writers[version] != read.txn {
         let ground = missed(versions, writers, place, read.key, read.version);
-        let why = Why::Missed(key, ground);
+        let why = LinkReason::Missed(key, ground);
         let from = web.reader_node(read.txn);
         let to = web.writer_node(writers[version]);
         web.add(from, to, why)?;
@@ -217,11 +221,15 @@ fn add_loose(web: &mut Web, versions: &Versions, loose: Loose) -> Result<(), All
     let count = writers.len();
     let node = web.chain_node(loose.key);
     let first = web.writer_node(loose.first);
-    web.add(node, first, Why::Past(loose.key))?;
+    web.add(node, first, LinkReason::Past(loose.key))?;
     if count > 0 {
         let row = Behind::Row(loose.key, number(count));
         let from = commit_of(writers[count - 1]);
-        web.add(from, start_of(loose.first), Why::Wrote(loose.key, row))?;
+        web.add(
+            from,
+            start_of(loose.first),
+            LinkReason::Wrote(loose.key, row),
+        )?;
     }
     Ok(())
 }

@@ -9,7 +9,7 @@ use Rattle.tx_types.specs.declared.mutation.Mutation.TheVariants.{Put, Insert, D
 use Rattle.tx_types.specs.Keys.{IsVisible, put_by}
 use Rattle.tx_machine.specs.Machine.{Rows, table_of, Commits, Sees as Shows, Newest, Overlap}
 use Rattle.tx_recording.specs.declared.recording.Orders.{Orders}
-use Rattle.tx_recording.specs.declared.recording.Transaction.{Transaction}
+use Rattle.tx_recording.specs.declared.recording.RecordedTransaction.{RecordedTransaction}
 use Rattle.tx_recording.specs.declared.recording.Recording.{Recording}
 use Rattle.tx_recording.specs.Recordings.{txns_of, transaction_at, no_transaction, ops_of}
 use Rattle.tx_recording.specs.Explanations.{Explanation, IsPut, IsWriter, IsNewest, Sees, Explains}
@@ -43,7 +43,7 @@ module _ (r : Recording) (orders : Orders) (x : Explanation) (rows : Rows) (key 
   below : (t : ℕ) → IsTrue (x.committed t) → t < txns_of r
   below t is = elim (cases_lt t (txns_of r)) [
     | inl lt ↦ lt
-    | inr past ↦ absurd (false≢true (sym (o.fail t (ap (λ (q : Transaction). q.outcome)
+    | inr past ↦ absurd (false≢true (sym (o.fail t (ap (λ (q : RecordedTransaction). q.outcome)
         (get_or_past r.transactions.items t no_transaction past))) ∙ is))
   ]
 

@@ -2,7 +2,7 @@
 use Rattle.std.proofs.Common.{◌≡◌, ◌<◌, length, arith, sym, ap, ◌∙◌}
 use Rattle.std.proofs.lemmas.Grind.{common_steps}
 use Rattle.std.proofs.lemmas.List.{get_or_read}
-use Rattle.tx_recording.specs.declared.recording.Transaction.{Transaction}
+use Rattle.tx_recording.specs.declared.recording.RecordedTransaction.{RecordedTransaction}
 use Rattle.tx_recording.specs.Recordings.{txns_of, no_transaction}
 use Rattle.tx_clock.proofs.NextEvents.{begun_more}
 use Rattle.tx_clock.proofs.clock.add_begins.Goals as goal
@@ -15,4 +15,4 @@ loop-txn-preserved c =
     let read = get_or_read r.transactions.items n c.index.result.now lt c.index.ensures no_transaction in
     begun_more r c.args.live.now c.loop-txn.events.items c.push.new.self.items n c.in-Some.time
     c.in_ok-push.ensures.items
-    (sym (ap (λ (q : Transaction). q.began) read) ∙ c.in-Some.is) c.loop-txn.invariant
+    (sym (ap (λ (q : RecordedTransaction). q.began) read) ∙ c.in-Some.is) c.loop-txn.invariant

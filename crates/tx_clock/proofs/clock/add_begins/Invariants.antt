@@ -1,7 +1,7 @@
 -- All so far that began were added, and what there was is there.
 use Rattle.std.proofs.Common.{◌≡◌, ℕ, ◌<◌, Contains, Some, IsTrue, false}
 use Rattle.tx_recording.specs.Recordings.{transaction_at}
-use Rattle.tx_clock.specs.declared.clock.Event.{Event}
+use Rattle.tx_clock.specs.declared.clock.ClockEvent.{ClockEvent}
 use Rattle.tx_clock.specs.KeptOrder.{live_in}
 use Rattle.tx_clock.proofs.clock.add_begins.Given as goal
 

@@ -2,9 +2,9 @@
 use Rattle.std.proofs.Common.{◌≡◌, ◌<◌, length, arith, true, sym, ap, ◌∙◌}
 use Rattle.std.proofs.lemmas.Grind.{common_steps}
 use Rattle.std.proofs.lemmas.List.{get_or_read}
-use Rattle.tx_recording.specs.declared.recording.Transaction.{Transaction}
+use Rattle.tx_recording.specs.declared.recording.RecordedTransaction.{RecordedTransaction}
 use Rattle.tx_recording.specs.Recordings.{txns_of, no_transaction}
-use Rattle.tx_clock.specs.declared.clock.Event.{Event}
+use Rattle.tx_clock.specs.declared.clock.ClockEvent.{ClockEvent}
 use Rattle.tx_clock.proofs.NextEvents.{ended_more, kept_push}
 use Rattle.tx_clock.proofs.clock.add_ends.Goals as goal
 
@@ -19,5 +19,5 @@ loop-txn-preserved c =
       kept = kept_push c.args.events.now.items c.loop-txn.events.items c.push.new.self.items
           record { time = c.in-Some.time; txn = n; ends = true } c.in_ok-push.ensures.items c.loop-txn.invariant.kept;
       has = ended_more r c.loop-txn.events.items c.push.new.self.items n c.in-Some.time c.in_ok-push.ensures.items
-          (sym (ap (λ (q : Transaction). q.ended) read) ∙ c.in-Some.is) c.loop-txn.invariant.has;
+          (sym (ap (λ (q : RecordedTransaction). q.ended) read) ∙ c.in-Some.is) c.loop-txn.invariant.has;
     }

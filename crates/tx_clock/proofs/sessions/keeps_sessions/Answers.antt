@@ -2,7 +2,7 @@
 use Rattle.std.proofs.Common.{◌≡◌, ℕ, ◌<◌, ◌≤◌, length, get_or, arith, sym, ap, ◌∙◌, subst, IsTrue}
 use Rattle.std.proofs.lemmas.Grind.{common_steps}
 use Rattle.std.proofs.lemmas.List.{get_or_read, length-set}
-use Rattle.tx_recording.specs.declared.recording.Transaction.{Transaction}
+use Rattle.tx_recording.specs.declared.recording.RecordedTransaction.{RecordedTransaction}
 use Rattle.tx_recording.specs.Recordings.{txns_of, transaction_at, no_transaction}
 use Rattle.tx_clock.specs.KeptOrder.{live_in}
 use Rattle.tx_clock.proofs.NextEvents.{above_none, kept_none, above_next, kept_next}
@@ -15,7 +15,8 @@ loop-txn-preserved-then-not-has_process c =
     let lt : n < txns_of r = grind (arith, common_steps, c.len-count.ensures, c.loop-txn-test.true) in
     let t = c.index-transaction.result.now in
     let read = get_or_read r.transactions.items n t lt c.index-transaction.ensures no_transaction in
-    let none = sym (ap (λ (q : Transaction). q.process) read) ∙ c.has_process.ensures c.if-not-has_process.true in
+    let none = sym (ap (λ (q : RecordedTransaction). q.process) read)
+        ∙ c.has_process.ensures c.if-not-has_process.true in
     record {
       each = c.loop-txn.invariant.each;
       above = above_none r c.args.live.now c.args.starts.now c.args.commits.now c.loop-txn.latest.items n none
@@ -30,7 +31,7 @@ loop-txn-preserved c =
     let lt : n < txns_of r = grind (arith, common_steps, c.len-count.ensures, c.loop-txn-test.true) in
     let t = c.index-transaction.result.now in
     let read = get_or_read r.transactions.items n t lt c.index-transaction.ensures no_transaction in
-    let process = sym (ap (λ (q : Transaction). q.process) read) ∙ c.in-Some.ensures.0 in
+    let process = sym (ap (λ (q : RecordedTransaction). q.process) read) ∙ c.in-Some.ensures.0 in
     let each = c.loop-txn.invariant.each in
     let within : c.in-Some.process < length c.loop-txn.latest.items =
     (let lt = c.in-Some.ensures.1 in grind (arith, common_steps, c.len-count.ensures, lt, each)) in
@@ -43,7 +44,7 @@ loop-txn-preserved c =
           c.in-Some.process c.later_of.result
           within process (let up = c.later_of.ensures.kept in omega (arith, up, was))
           (λ ok. (let up = c.later_of.ensures.upto
-          (c.is_ok.ensures.1 (ap (λ (q : Transaction). q.outcome) read ∙ ok)) in
+          (c.is_ok.ensures.1 (ap (λ (q : RecordedTransaction). q.outcome) read ∙ ok)) in
           let same = c.number_at-in-loop-txn.ensures in
           omega (arith, up, same))) c.loop-txn.invariant.above;
       kept = kept_next r c.args.live.now c.args.starts.now c.args.commits.now c.loop-txn.latest.items n

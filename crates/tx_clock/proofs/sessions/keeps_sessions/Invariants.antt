@@ -1,6 +1,6 @@
 -- The table has what each process ran last; and each one so far starts above.
 use Rattle.std.proofs.Common.{◌≡◌, ℕ, ◌<◌, ◌≤◌, length, get_or, Some, IsTrue}
-use Rattle.tx_recording.specs.declared.recording.Outcome.TheVariants.{Ok}
+use Rattle.tx_recording.specs.declared.recording.RecordedOutcome.TheVariants.{Ok}
 use Rattle.tx_recording.specs.Recordings.{txns_of, transaction_at}
 use Rattle.tx_recording.specs.Explanations.{IsSession}
 use Rattle.tx_clock.specs.KeptOrder.{live_in}

@@ -2,8 +2,8 @@
 use Rattle.std.proofs.Common.{◌≡◌, ℕ, true, false, get_or, Contains, arith, sym, ap, ◌∙◌, subst}
 use Rattle.std.proofs.lemmas.Grind.{common_steps}
 use Rattle.std.proofs.lemmas.List.{get_or_read}
-use Rattle.tx_recording.specs.declared.recording.Op.{Op}
-use Rattle.tx_recording.specs.declared.recording.Transaction.{Transaction}
+use Rattle.tx_recording.specs.declared.recording.RecordedOp.{RecordedOp}
+use Rattle.tx_recording.specs.declared.recording.RecordedTransaction.{RecordedTransaction}
 use Rattle.tx_recording.specs.Recordings.{no_transaction, no_op}
 use Rattle.tx_recording.specs.Explanations.{Puts}
 use Rattle.tx_import.proofs.Bares.{each_by_place}
@@ -13,8 +13,8 @@ pub returns : goal.returns
 returns c _ =
     let r = c.args.recording.now in
     let read = c.args.read.now in
-    let P : Op → Type 0 = λ (o : Op). (v : ℕ) → Puts o.act v → get_or read v false ≡ true → ⊥ in (
-      sym (ap (λ (q : Transaction). q.outcome)
+    let P : RecordedOp → Type 0 = λ (o : RecordedOp). (v : ℕ) → Puts o.act v → get_or read v false ≡ true → ⊥ in (
+      sym (ap (λ (q : RecordedTransaction). q.outcome)
           (get_or_read r.transactions.items c.args.txn c.index.result.now c.requires.within c.index.ensures
           no_transaction))
           ∙ c.in-Fail.is,

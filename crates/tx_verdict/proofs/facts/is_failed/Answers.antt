@@ -1,7 +1,7 @@
 -- As it stands in the recording.
 use Rattle.std.proofs.Common.{◌<◌, arith}
 use Rattle.std.proofs.lemmas.Grind.{common_steps}
-use Rattle.tx_recording.specs.declared.recording.Outcome.TheVariants.{Fail as Failed}
+use Rattle.tx_recording.specs.declared.recording.RecordedOutcome.TheVariants.{Fail as Failed}
 use Rattle.tx_recording.specs.Recordings.{txns_of}
 use Rattle.tx_verdict.proofs.Small.{outcome_is}
 use Rattle.tx_verdict.proofs.facts.is_failed.Goals as goal

@@ -1,6 +1,6 @@
 -- Those so far are live as is known.
 use Rattle.std.proofs.Common.{◌≡◌, ℕ, ◌<◌, IsTrue, false}
-use Rattle.tx_recording.specs.declared.recording.Outcome.TheVariants.{Ok as Committed, Fail as Failed}
+use Rattle.tx_recording.specs.declared.recording.RecordedOutcome.TheVariants.{Ok as Committed, Fail as Failed}
 use Rattle.tx_recording.specs.Recordings.{transaction_at}
 use Rattle.tx_verdict.specs.Versions.{live_of}
 use Rattle.tx_verdict.proofs.fit.are_live.Given as goal

@@ -1,6 +1,6 @@
 -- By an order that is known, or by the recording.
 use Rattle.std.proofs.Common.{inl, inr}
-use Rattle.tx_verdict.specs.declared.verdict.Edge.TheVariants.{Rw}
+use Rattle.tx_verdict.specs.declared.verdict.EdgeKind.TheVariants.{Rw}
 use Rattle.tx_verdict.proofs.Direct.{order_with, step_with}
 use Rattle.tx_verdict.proofs.ground.is_missed.Goals as goal
 

@@ -3,7 +3,7 @@ use Rattle.std.proofs.Common.{◌≡◌, ℕ, ◌+◌, ◌<◌, ◌≤◌, List,
 use Rattle.std.proofs.lemmas.Grind.{common_steps}
 use Rattle.std.proofs.lemmas.List.{drop_more, take_more, take_all}
 use Rattle.std.proofs.Math.ListN.{drop_of_length-le}
-use Rattle.tx_verdict.specs.declared.refutation.Order.{Order}
+use Rattle.tx_verdict.specs.declared.refutation.WriteOrder.{WriteOrder}
 use Rattle.tx_verdict.specs.declared.refutation.Lemma.{Lemma}
 use Rattle.tx_verdict.specs.Refutations.{AreLemmasBy, ClosesBy}
 use Rattle.tx_verdict.proofs.Direct.{lemma_on, lemmas_end}
@@ -32,7 +32,7 @@ returns c is =
     let past : length lemmas ≤ i = grind (arith, common_steps, c.loop-i-test.false) in
     let same : c.extend_from_slice.new.self.items ≡ c.args.known.now =
     c.in_ok-extend_from_slice.ensures.items ∙ ap (λ q. q ++ c.args.known.now) c.new-all.ensures.items in
-    let P : List Order → Type 0 = λ q. ClosesBy r c.args.question lemmas q c.args.hints.now c.args.last.now in
+    let P : List WriteOrder → Type 0 = λ q. ClosesBy r c.args.question lemmas q c.args.hints.now c.args.last.now in
     c.loop-i.invariant (lemmas_end r c.args.question c.args.known.now c.args.hints.now c.args.last.now (take i lemmas)
     lemmas (drop i lemmas) (drop_of_length-le lemmas past) (sym (take_all i lemmas past))
     (subst P same (c.in_ok-closes.ensures is)))

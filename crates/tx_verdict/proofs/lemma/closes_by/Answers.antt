@@ -3,7 +3,7 @@ use Rattle.std.proofs.Common.{◌≡◌, ℕ, ◌+◌, ◌<◌, List, [], ◌∷
 use Rattle.std.proofs.lemmas.Grind.{common_steps}
 use Rattle.std.proofs.lemmas.List.{drop_more}
 use Rattle.std.proofs.Math.ListN.{drop_of_length-le}
-use Rattle.tx_verdict.specs.declared.refutation.Order.{Order}
+use Rattle.tx_verdict.specs.declared.refutation.WriteOrder.{WriteOrder}
 use Rattle.tx_verdict.specs.declared.refutation.Hint.{Hint}
 use Rattle.tx_verdict.specs.Refutations.{ClosesBy, IsUnitOf, no_order}
 use Rattle.tx_verdict.proofs.Direct.{hint_on, hints_end}
@@ -16,7 +16,7 @@ loop-i-preserved c =
     let i = c.loop-i.i in
     let h = get_or hints i record { lemma = 0; order = no_order } in
     let known = c.loop-i.known.items in
-    let P : List Order → Type 0 = λ q. IsUnitOf c.args.lemmas.now q h in
+    let P : List WriteOrder → Type 0 = λ q. IsUnitOf c.args.lemmas.now q h in
     hint_on (ClosesBy r c.args.question c.args.lemmas.now c.args.known.now.items hints c.args.steps.now) r
     c.args.question c.args.lemmas.now c.args.steps.now known c.push.new.self.items (drop i hints)
     (drop (i + 1) hints) h (drop_more hints i record { lemma = 0; order = no_order } c.loop-i-test.true)

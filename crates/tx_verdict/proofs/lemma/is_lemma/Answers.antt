@@ -3,16 +3,16 @@ use Rattle.std.proofs.Common.{◌≡◌, ℕ, ◌+◌, ◌<◌, List, [], ◌∷
 use Rattle.std.proofs.lemmas.Grind.{common_steps}
 use Rattle.std.proofs.lemmas.List.{drop_more}
 use Rattle.std.proofs.Math.ListN.{drop_of_length-le}
-use Rattle.tx_verdict.specs.declared.refutation.Order.{Order}
+use Rattle.tx_verdict.specs.declared.refutation.WriteOrder.{WriteOrder}
 use Rattle.tx_verdict.specs.Refutations.{opposite, IsClauseBy, IsLemmaBy, no_order}
 use Rattle.tx_verdict.proofs.Direct.{clause_on, clause_ends}
 use Rattle.tx_verdict.proofs.lemma.is_lemma.Goals as goal
 
 pub loop-i-init : goal.loop-i-init
 loop-i-init c rest =
-    let P : List Order → Type 0 = λ q. IsClauseBy c.args.recording.now c.args.question c.args.before.now q
+    let P : List WriteOrder → Type 0 = λ q. IsClauseBy c.args.recording.now c.args.question c.args.before.now q
     c.as_slice-clause.result.now c.args.lemma.now.hints.items c.args.lemma.now.round.items in
-    let Q : List Order → Type 0 = λ q. IsClauseBy c.args.recording.now c.args.question c.args.before.now
+    let Q : List WriteOrder → Type 0 = λ q. IsClauseBy c.args.recording.now c.args.question c.args.before.now
     c.args.known.now q c.args.lemma.now.hints.items c.args.lemma.now.round.items in
     let same : c.extend_from_slice.new.self.items ≡ c.args.known.now =
     c.in_ok-extend_from_slice.ensures.items ∙ ap (λ q. q ++ c.args.known.now) c.new-all.ensures.items in

@@ -2,7 +2,7 @@
 use Rattle.std.proofs.Common.{◌≡◌, ◌⊎◌, ℕ, ◌<◌, length, get_or, Contains, arith}
 use Rattle.std.proofs.lemmas.Grind.{common_steps}
 use Rattle.tx_views.proofs.ReadViews.{below_next}
-use Rattle.tx_verdict.specs.declared.refutation.Order.{Order}
+use Rattle.tx_verdict.specs.declared.refutation.WriteOrder.{WriteOrder}
 use Rattle.tx_verdict.specs.Refutations.{opposite, no_order}
 use Rattle.tx_verdict.proofs.Small.{by_place}
 use Rattle.tx_verdict.proofs.lemma.is_unit.Goals as goal
@@ -14,5 +14,5 @@ loop-i-preserved c =
     c.loop-i.invariant (c.is_other.ensures c.if-not-is_other.false)
 
 pub returns : goal.returns
-returns c _ = by_place (λ (p : Order). (p ≡ c.args.left) ⊎ Contains c.args.known.now (opposite p))
+returns c _ = by_place (λ (p : WriteOrder). (p ≡ c.args.left) ⊎ Contains c.args.known.now (opposite p))
     c.args.clause.now no_order (λ i lt. c.loop-i.invariant i (grind (arith, common_steps, c.loop-i-test.false, lt)))

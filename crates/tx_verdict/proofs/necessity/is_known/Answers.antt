@@ -1,7 +1,7 @@
 -- It is known, or a value of it was seen.
 use Rattle.std.proofs.Common.{◌<◌, arith, inl}
 use Rattle.std.proofs.lemmas.Grind.{common_steps}
-use Rattle.tx_recording.specs.declared.recording.Outcome.TheVariants.{Ok as Committed}
+use Rattle.tx_recording.specs.declared.recording.RecordedOutcome.TheVariants.{Ok as Committed}
 use Rattle.tx_recording.specs.Recordings.{txns_of}
 use Rattle.tx_verdict.proofs.Small.{outcome_is}
 use Rattle.tx_verdict.proofs.necessity.is_known.Goals as goal

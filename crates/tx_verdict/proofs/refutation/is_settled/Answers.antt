@@ -2,7 +2,7 @@
 use Rattle.std.proofs.Common.{◌≡◌, ℕ, List, [], ◌∷◌, ◌++◌, length, slice_set, arith, refl, sym, ap, ◌∙◌, subst}
 use Rattle.std.proofs.lemmas.Grind.{common_steps}
 use Rattle.std.proofs.Math.Seq.{set-append_seam}
-use Rattle.tx_verdict.specs.declared.refutation.Order.{Order}
+use Rattle.tx_verdict.specs.declared.refutation.WriteOrder.{WriteOrder}
 use Rattle.tx_verdict.specs.declared.verdict.CycleStep.{CycleStep}
 use Rattle.tx_verdict.specs.Refutations.{opposite, IsRoundBy}
 use Rattle.tx_verdict.proofs.refutation.is_settled.Goals as goal
@@ -13,7 +13,7 @@ returns c _ =
     let o = c.args.fact.now.order in
     let known = c.args.known.now.items in
     let round = c.in_ok-is_round_by.ensures c.if-not-branch.false in
-    let P : List Order → Type 0 = λ q. IsRoundBy r c.args.question q c.as_slice-2.result.now in
+    let P : List WriteOrder → Type 0 = λ q. IsRoundBy r c.args.question q c.as_slice-2.result.now in
     let Q : List CycleStep → Type 0 = λ q. IsRoundBy r c.args.question (known ++ opposite o ∷ []) q in
     let len : c.len-count.result ≡ length known = grind (arith, common_steps, c.len-count.ensures) in
     let seam : slice_set (known ++ opposite o ∷ []) (length known) o ≡ known ++ o ∷ [] =

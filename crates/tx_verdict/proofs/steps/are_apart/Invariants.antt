@@ -1,6 +1,6 @@
 -- Of those so far no two neighbours are anti-dependencies.
 use Rattle.std.proofs.Common.{◌≡◌, ℕ, ◌+◌, ◌<◌}
-use Rattle.tx_verdict.specs.declared.verdict.Edge.TheVariants.{Rw}
+use Rattle.tx_verdict.specs.declared.verdict.EdgeKind.TheVariants.{Rw}
 use Rattle.tx_verdict.specs.Steps.{step_at}
 use Rattle.tx_verdict.proofs.steps.are_apart.Given as goal
 

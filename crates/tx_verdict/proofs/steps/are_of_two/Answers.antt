@@ -2,7 +2,7 @@
 use Rattle.std.proofs.Common.{◌≢◌, arith, None}
 use Rattle.std.proofs.lemmas.Grind.{common_steps}
 use Rattle.tx_verdict.specs.declared.verdict.CycleStep.{CycleStep}
-use Rattle.tx_verdict.specs.declared.verdict.Edge.TheVariants.{Ww}
+use Rattle.tx_verdict.specs.declared.verdict.EdgeKind.TheVariants.{Ww}
 use Rattle.tx_verdict.proofs.Small.{by_place}
 use Rattle.tx_verdict.proofs.steps.are_of_two.Goals as goal
 

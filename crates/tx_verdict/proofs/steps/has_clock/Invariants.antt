@@ -1,6 +1,6 @@
 -- None of those so far is by the clock.
 use Rattle.std.proofs.Common.{ℕ, ◌<◌, ◌≢◌}
-use Rattle.tx_verdict.specs.declared.verdict.Edge.TheVariants.{Rt}
+use Rattle.tx_verdict.specs.declared.verdict.EdgeKind.TheVariants.{Rt}
 use Rattle.tx_verdict.specs.Steps.{step_at}
 use Rattle.tx_verdict.proofs.steps.has_clock.Given as goal
 

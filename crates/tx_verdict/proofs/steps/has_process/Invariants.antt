@@ -1,6 +1,6 @@
 -- None of those so far is by a process.
 use Rattle.std.proofs.Common.{ℕ, ◌<◌, ◌≢◌}
-use Rattle.tx_verdict.specs.declared.verdict.Edge.TheVariants.{So}
+use Rattle.tx_verdict.specs.declared.verdict.EdgeKind.TheVariants.{So}
 use Rattle.tx_verdict.specs.Steps.{step_at}
 use Rattle.tx_verdict.proofs.steps.has_process.Given as goal
 

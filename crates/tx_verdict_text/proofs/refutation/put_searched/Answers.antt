@@ -5,7 +5,7 @@ use Rattle.serde_json.specs.View.{items_of}
 use Rattle.serde_json.specs.Written.{compact_text}
 use Rattle.tx_verdict.specs.declared.refutation.Lemma.{Lemma}
 use Rattle.tx_verdict.specs.declared.refutation.Refutation.{Refutation}
-use Rattle.tx_import.specs.declared.reader.History.{History}
+use Rattle.tx_import.specs.declared.reader.NamedHistory.{NamedHistory}
 use Rattle.tx_text.specs.Texts.{line_text}
 use Rattle.tx_text.proofs.Texts.{if_ok}
 use Rattle.tx_check.proofs.Joins.{join_four}
@@ -13,7 +13,7 @@ use Rattle.tx_verdict_text.specs.Words.{answer_words, told_items, facts_data, le
 use Rattle.tx_verdict_text.proofs.Lines.{after, four_end}
 use Rattle.tx_verdict_text.proofs.refutation.put_searched.Goals as goal
 
-told_so : (h : History) (x : Refutation) (ls : List Lemma) → 0 < length ls
+told_so : (h : NamedHistory) (x : Refutation) (ls : List Lemma) → 0 < length ls
     → codes "[\"import\",\"no\",\"order\"," ++ (compact_text (facts_data h x)
     ++ 44 ∷ (compact_text (array (items_of (map (lemma_data h) ls)))
     ++ 44 ∷ (compact_text (hints_data h x.hints.items) ++ 44 ∷ (compact_text (steps_data h x.last.items)

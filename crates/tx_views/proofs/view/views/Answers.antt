@@ -1,7 +1,7 @@
 -- One transaction more.
 use Rattle.std.proofs.Common.{◌≡◌, ℕ, ◌<◌, length, arith}
 use Rattle.std.proofs.lemmas.Grind.{common_steps}
-use Rattle.tx_recording.specs.declared.recording.Outcome.TheVariants.{Ok as Committed}
+use Rattle.tx_recording.specs.declared.recording.RecordedOutcome.TheVariants.{Ok as Committed}
 use Rattle.tx_recording.specs.Recordings.{ops_of, transaction_at, txns_of}
 use Rattle.tx_views.specs.Views.{IsAnswered}
 use Rattle.tx_views.proofs.ReadViews.{below_next, answered_more, none_at, not_ok}
