@@ -45,7 +45,7 @@ clock_kept r live events starts commits are keeps t u (e, b, lt, ended, began, o
     elim (cases_lt i j) [
       | inl before ↦ (
           let le = keeps i j before in_j (ap (λ (q : ClockEvent). q.ends) at_i)
-              (ap (λ (q : ClockEvent). q.ends) at_j) in
+          (ap (λ (q : ClockEvent). q.ends) at_j) in
           let c = ap (λ (q : ClockEvent). get_or commits q.txn 0) at_i in
           let s = ap (λ (q : ClockEvent). get_or starts q.txn 0) at_j in
           omega (arith, le, c, s)

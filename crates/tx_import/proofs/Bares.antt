@@ -74,13 +74,13 @@ ranged : (r : Recording) (t : RecordedTransaction) (n : ℕ) → IsRecording r �
     → IsTransactionOf (length r.ops.items) t
 ranged r t n is lt (inl same) =
     subst (λ (q : RecordedTransaction). IsTransactionOf (length r.ops.items) q)
-        (sym same) (is.transactions n no_transaction lt)
+    (sym same) (is.transactions n no_transaction lt)
 ranged r t n is lt (inr (unread, same)) =
     let old = is.transactions n no_transaction lt in
     let a = old.0 in
     let b = old.1 in
     subst (λ (q : RecordedTransaction). IsTransactionOf (length r.ops.items) q) (sym same)
-        (omega arith, omega (arith, a, b))
+    (omega arith, omega (arith, a, b))
 
 -- it is a recording as well
 pub bare_recording : (r b : Recording) → IsRecording r → IsBare r b → IsRecording b

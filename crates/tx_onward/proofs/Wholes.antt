@@ -179,7 +179,7 @@ module _ (r left : Recording) (told : ℕ → Bool) (l : IsLeft r told left) whe
         (subst (λ (os : List RecordedOp). (slice_index_or os p no_op).act ≡ Read span) (kept t) is) in
         let op : op_at left t p ≡ op_at r t p = ap (λ (os : List RecordedOp). slice_index_or os p no_op) all in
         let (xs, seen, there) = e.reads t p span (sym (same_outcome t) ∙ ok)
-            (sym (ap (λ (o : RecordedOp). o.act) op) ∙ is) in (
+        (sym (ap (λ (o : RecordedOp). o.act) op) ∙ is) in (
           xs,
           subst (λ k. Sees left x k (x.start t) xs) (sym (ap (λ (o : RecordedOp). o.key) op))
               (sees (op_at r t p).key (x.start t) xs seen),

@@ -174,7 +174,7 @@ pushed r t p span base s ops views new are ok is seen based new_is only =
     let at = subst (λ z. IsSeen r (take p (ops_of r t)) (op_at r t p).key span z) based (subst S are seen) in
     let v : RecordedView = record { txn = t; key = (op_at r t p).key; span = base } in
     let N : List RecordedOp → Type 0 =
-        λ q. new ≡ views ++ record { txn = t; key = (get_or q p no_op).key; span = base } ∷ [] in
+    λ q. new ≡ views ++ record { txn = t; key = (get_or q p no_op).key; span = base } ∷ [] in
     let added : new ≡ views ++ v ∷ [] = subst N are new_is in (
       subst (λ q. (w : RecordedView) → Contains q w → IsViewOf r w) (sym added)
           (only_push r views v (view_by r t p span base (ok, read) at.0 at.1) only),
@@ -191,4 +191,4 @@ pub not_ok : (r : Recording) (views : List RecordedView) (n : ℕ) (t : Recorded
     → (p : ℕ) → (transaction_at r n).outcome ≡ Committed → p < length (ops_of r n) → IsAnswered r views n p
 not_ok r views n t lt read other p ok in_ops =
     absurd (other (ap (λ (q : RecordedTransaction). q.outcome)
-        (get_or_read r.transactions.items n t lt read no_transaction) ∙ ok))
+    (get_or_read r.transactions.items n t lt read no_transaction) ∙ ok))

@@ -16,7 +16,7 @@ loop-txn-preserved-then-not-has_process c =
     let t = c.index-transaction.result.now in
     let read = get_or_read r.transactions.items n t lt c.index-transaction.ensures no_transaction in
     let none = sym (ap (λ (q : RecordedTransaction). q.process) read)
-        ∙ c.has_process.ensures c.if-not-has_process.true in
+    ∙ c.has_process.ensures c.if-not-has_process.true in
     record {
       each = c.loop-txn.invariant.each;
       above = above_none r c.args.live.now c.args.starts.now c.args.commits.now c.loop-txn.latest.items n none
