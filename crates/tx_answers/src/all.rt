@@ -8,8 +8,9 @@ ghost use Rattle.tx_onward.specs.Untold.{untold};
 ghost use Rattle.tx_answers.specs.Texts.{end_of as end_of_verdict};
 ghost use Rattle.tx_answers.specs.All.{IsOneOf, IsAllOf};
 
-use crate::answer::{Answer, AnswerOptions, ImportEnd, answer_text, end_of};
+use crate::answer::{Answer, AnswerOptions, ImportEnd, end_of};
 use crate::sentences::{SIGN, sentences};
+use crate::text::answer_text;
 use std::alloc::{AllocError, Global};
 use tx_import::NamedHistory;
 use tx_judge::judge;

@@ -10,6 +10,7 @@ mod moment;
 mod page;
 mod sentences;
 mod steps;
+mod text;
 mod trace;
 
 pub use answer::{AnswerOptions, Answered, CycleForm, ImportEnd, import};

@@ -139,8 +139,8 @@ simulate does, so it takes about the square of its length. Where no reply of the
 script itself has the text, nothing is written, with status 3.
 
 Examples:
-  txkv reduce --keep '"E5"' long.script     The shortest that shows an E5
-  txkv reduce --keep '"lost"' long.script   The shortest that loses a request"#;
+  txkv reduce --keep '"E5"' long.script     A shorter one that shows an E5
+  txkv reduce --keep '"lost"' long.script   A shorter one that loses a request"#;
 
 pub(crate) static RUN_ABOUT: &str = "Run the sessions of a script side by side, on several threads";
 

@@ -1,11 +1,8 @@
-//! Lines that are faults, and the sentences that say why.
+//! Lines of scripts that are faults, and the sentences that say why.
 use std::alloc::Global;
 use std::test::Fail;
-use tx_check::check;
-use tx_sentences::{InputKind, Place, reason, why};
-use tx_steps::{Line, Program};
+use tx_sentences::{InputKind, Place, reason};
 use tx_streams::NotedFaults;
-use tx_text::{End, Parts};
 use tx_types::Cause;
 
 // Lines of scripts that are faults, and why.
@@ -235,112 +232,6 @@ static SCRIPTS: [(&str, Cause, &str); 47] = [
     ),
 ];
 
-// Lines of runs and of traces that are faults, and why.
-static OTHERS: [(InputKind, &str, Cause, &str); 17] = [
-    (
-        InputKind::Trace,
-        r#"["begin","A"]"#,
-        Cause::Form,
-        "form: it is a step of a script, which txkv simulate reads",
-    ),
-    (
-        InputKind::History,
-        r#"["begin","A"]"#,
-        Cause::Form,
-        "form: the line is no object: steps of scripts are for txkv simulate, those of traces for txkv check",
-    ),
-    (
-        InputKind::History,
-        r#"{"process":[1],"type":"ok","ops":[]}"#,
-        Cause::Form,
-        r#"form: "process" is no string of 1 to 512 bytes and no whole number below 2^64"#,
-    ),
-    (
-        InputKind::History,
-        r#"{"type":"ok","ops":[]}"#,
-        Cause::Form,
-        "form: the transaction does not go with those before it",
-    ),
-    (
-        InputKind::Run,
-        r#"["get","A","a","lose"]"#,
-        Cause::Form,
-        r#"form: "lose" stands behind the last member of the step"#,
-    ),
-    (
-        InputKind::Run,
-        r#"["tick",1]"#,
-        Cause::Form,
-        r#"form: "tick" is no step of txkv run; txkv simulate has it"#,
-    ),
-    (
-        InputKind::Run,
-        r#"["transfer","A","a","a",5,"async"]"#,
-        Cause::Form,
-        "form: a transfer moves between two different keys",
-    ),
-    (
-        InputKind::Run,
-        r#"["transfer","A","a","b",0,"async"]"#,
-        Cause::Form,
-        "form: 0 is no amount (1 to 1000000000000)",
-    ),
-    (
-        InputKind::Run,
-        r#"["transfr","A","a","b",5,"async"]"#,
-        Cause::Form,
-        r#"form: "transfr" is no step of txkv run; did you mean "transfer"?"#,
-    ),
-    (
-        InputKind::Trace,
-        r#"["answer",3,"commited",4]"#,
-        Cause::Form,
-        r#"form: "commited" is no fate (committed, aborted); did you mean "committed"?"#,
-    ),
-    (
-        InputKind::Trace,
-        r#"["regions",["m"]]"#,
-        Cause::Form,
-        r#"form: "regions" is no step of txkv check"#,
-    ),
-    (
-        InputKind::Trace,
-        r#"["draw"]"#,
-        Cause::Form,
-        r#"form: "draw" wants behind it: timestamp"#,
-    ),
-    (
-        InputKind::Trace,
-        r#"["declare",3,[["a","put"]]]"#,
-        Cause::Form,
-        r#"form: [["a","put"]] is no write set ([[key,"put",value],[key,"insert",value],[key,"delete"],[key,"lock"],..])"#,
-    ),
-    (
-        InputKind::Trace,
-        r#"["read",3,"","x"]"#,
-        Cause::Form,
-        r#"form: "" is no key (a string of 1 to 512 bytes)"#,
-    ),
-    (
-        InputKind::Trace,
-        r#"["scan",3,"a","c",9,[["a"]]]"#,
-        Cause::Form,
-        r#"form: [["a"]] is no list of rows ([[key,value],..])"#,
-    ),
-    (
-        InputKind::Trace,
-        r#"["answer",3,"committed"]"#,
-        Cause::Form,
-        r#"form: "committed" wants its timestamp behind it"#,
-    ),
-    (
-        InputKind::Trace,
-        r#"["answer",3,"aborted",4]"#,
-        Cause::Form,
-        "form: 4 stands behind the last member of the step",
-    ),
-];
-
 // The fourth line of standard input.
 const HERE: Place<'static> = Place {
     file: None,
@@ -353,8 +244,8 @@ fn sentence_of(alloc: Global, kind: InputKind, cause: Cause, line: &[u8]) -> Res
     Ok(reason(alloc, kind, HERE, fault, Some(line), None)?)
 }
 
-// Whether just this is told of line 4.
-fn is_told(
+/// Whether just this is told of line 4.
+pub(crate) fn is_told(
     alloc: Global,
     kind: InputKind,
     cause: Cause,
@@ -369,15 +260,6 @@ fn is_told(
 fn sentences_name_line_member_and_rule(rt: HostRuntime) -> Result<(), Fail> {
     for (line, cause, sentence) in SCRIPTS {
         let is_told = is_told(rt.alloc(), InputKind::Script, cause, line, sentence)?;
-        assert!(rt; is_told, "{line}");
-    }
-    Ok(())
-}
-
-#[test]
-fn sentences_of_other_commands_do_as_well(rt: HostRuntime) -> Result<(), Fail> {
-    for (kind, line, cause, sentence) in OTHERS {
-        let is_told = is_told(rt.alloc(), kind, cause, line, sentence)?;
         assert!(rt; is_told, "{line}");
     }
     Ok(())
@@ -437,88 +319,6 @@ fn long_members_are_cut(rt: HostRuntime) -> Result<(), Fail> {
     Ok(())
 }
 
-// Lines of scripts, each a step of one program or of none.
-static LINES: [&str; 38] = [
-    r#"["begin","A"]"#,
-    r#"["put","A","a","x"]"#,
-    r#"["put","A","a"]"#,
-    r#"["insert","A","a","x"]"#,
-    r#"["insert","A","a"]"#,
-    r#"["delete","B","a"]"#,
-    r#"["lock","A","a"]"#,
-    r#"["get","B","a"]"#,
-    r#"["get","A","a","lose"]"#,
-    r#"["get","A","b","lose-reply"]"#,
-    r#"["get","A","a","repeat"]"#,
-    r#"["get","A","a","hold","h0"]"#,
-    r#"["get","A","a","hold","h0",1]"#,
-    r#"["scan","B","a","z",1024]"#,
-    r#"["scan","B","a","z",9,"hold","h"]"#,
-    r#"["declare","A","two-phase",0]"#,
-    r#"["declare","A","two-phase",0,1]"#,
-    r#"["declare","A","async",10,2]"#,
-    r#"["declare","A","async",10,2,3]"#,
-    r#"["prewrite","B","lose-reply"]"#,
-    r#"["draw","A"]"#,
-    r#"["draw","A","lose"]"#,
-    r#"["commit","A","hold","h"]"#,
-    r#"["abort","B","repeat"]"#,
-    r#"["heartbeat","A",20,"hold","h"]"#,
-    r#"["finish","A"]"#,
-    r#"["stop","A"]"#,
-    r#"["resolve","B",100]"#,
-    r#"["deliver","h"]"#,
-    r#"["read","a",18446744073709551615]"#,
-    r#"["versions","a"]"#,
-    r#"["tick",4294967295]"#,
-    r#"["tick",4294967296]"#,
-    r#"["gc",18446744073709551616]"#,
-    r#"["seed","a","5"]"#,
-    r#"["transfer","A","a","b",5,"async"]"#,
-    r#"["transfer","A","a","b",1000000000001,"async"]"#,
-    r#"["transfer","A","a","a",5,"async"]"#,
-];
-
-// Steps of the machine, and lines that are none.
-static TRACES: [&str; 18] = [
-    r#"["draw",3]"#,
-    r#"["draw",3,4]"#,
-    r#"["begin",3]"#,
-    r#"["declare",3,[["a","put","x"],["b","delete"],["c","lock"]]]"#,
-    r#"["declare",3,[["a","put","x"],["b","erase"]]]"#,
-    r#"["declare",3,[["d","insert","x"]]]"#,
-    r#"["declare",3,[["d","insert"]]]"#,
-    r#"["declare",3,{}]"#,
-    r#"["commit",3,4]"#,
-    r#"["commit",3,-4]"#,
-    r#"["abort",3]"#,
-    r#"["read",4,"a","x"]"#,
-    r#"["read",4,"a",null]"#,
-    r#"["read",4,"a",false]"#,
-    r#"["scan",4,"a","m",9,[["a","x"]]]"#,
-    r#"["scan",4,"a","m",9,[["a","x","y"]]]"#,
-    r#"["answer",3,"committed",4]"#,
-    r#"["answer",3,"aborted"]"#,
-];
-
-// Whether a line of a script is a step of a program.
-fn is_step(alloc: Global, program: Program, line: &str) -> Result<bool, Fail> {
-    let mut parts = Parts::new();
-    match Line::read(alloc, 2, line.as_bytes(), &mut parts)? {
-        Ok(said) => Ok(said.step(program).is_some()),
-        Err(_) => Ok(false),
-    }
-}
-
-// Whether something is found to be wrong with a line.
-fn is_faulted(alloc: Global, kind: InputKind, line: &str) -> Result<bool, Fail> {
-    let fault = NotedFaults {
-        number: 2,
-        cause: Cause::Form,
-    };
-    Ok(why(alloc, kind, fault, line.as_bytes(), None)?.is_some())
-}
-
 // Where it is known what is so of the session, that alone is said of it.
 #[test]
 fn what_is_known_of_a_session_is_the_reason(rt: HostRuntime) -> Result<(), Fail> {
@@ -537,35 +337,5 @@ fn what_is_known_of_a_session_is_the_reason(rt: HostRuntime) -> Result<(), Fail>
         state,
     )?;
     assert_eq!(rt; told.as_str(), "line 4: order: session \"A\" is aborted");
-    Ok(())
-}
-
-// Whether a line of a trace is none of its steps.
-fn is_no_step(alloc: Global, line: &str) -> Result<bool, Fail> {
-    let mut written = Vec::new(alloc);
-    Ok(check(alloc, &mut line.as_bytes(), &mut written)? == End::Faulted)
-}
-
-// Something is wrong with just the lines that are no steps.
-#[test]
-fn sentences_agree_with_the_readers_of_lines(rt: HostRuntime) -> Result<(), Fail> {
-    for line in LINES {
-        let simulated = is_step(rt.alloc(), Program::Simulate, line)?;
-        let is_wrong = is_faulted(rt.alloc(), InputKind::Script, line)?;
-        assert!(rt; is_wrong != simulated, "simulate: {line}");
-        let run = is_step(rt.alloc(), Program::Run, line)?;
-        let is_wrong = is_faulted(rt.alloc(), InputKind::Run, line)?;
-        assert!(rt; is_wrong != run, "run: {line}");
-    }
-    Ok(())
-}
-
-#[test]
-fn sentences_agree_with_the_checker(rt: HostRuntime) -> Result<(), Fail> {
-    for line in TRACES {
-        let is_no_step = is_no_step(rt.alloc(), line)?;
-        let is_wrong = is_faulted(rt.alloc(), InputKind::Trace, line)?;
-        assert!(rt; is_wrong == is_no_step, "check: {line}");
-    }
     Ok(())
 }

@@ -7,7 +7,9 @@ mod boxes;
 mod drawing;
 mod picture;
 mod reads;
+mod refutation;
 
 pub use drawing::{cycle_drawing, refuted_drawing};
-pub use picture::{cycle_picture, refuted_picture, refuted_pictures};
+pub use picture::cycle_picture;
 pub use reads::{read_drawing, read_picture};
+pub use refutation::{refuted_picture, refuted_pictures};

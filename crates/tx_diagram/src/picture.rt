@@ -1,19 +1,18 @@
 //! A cycle, drawn as a picture.
 ghost use Rattle.std.specs.Prelude.{◌≡◌, ◌<◌, ◌++◌, length, OnOk, IfOk};
-ghost use Rattle.std.specs.List.{flat_map};
 ghost use Rattle.tx_verdict.specs.Steps.{step_at};
 ghost use Rattle.tx_ring.specs.Markup.{each_of};
-ghost use Rattle.tx_diagram.specs.Pictures.{told_text, sense_text, reach_at, most_of, known_keys, key_at, keys_of, rows_at, rows_of, tied_text, tie_at, piece_text, piece_at, last_word, ringed_text, picture_of, picture_text, refuted_picture, settled_picture, lemma_picture, refuted_pictures};
+ghost use Rattle.tx_diagram.specs.Pictures.{told_text, sense_text, reach_at, most_of, known_keys, key_at, keys_of, rows_at, rows_of, tied_text, tie_at, piece_text, piece_at, last_word, ringed_text, picture_of, picture_text};
 ghost use Rattle.tx_acts.specs.Shown.{shown_text};
 ghost use Rattle.tx_ring.specs.Rings.{end_text};
 
 use crate::boxes::{put_box_of, shown_of};
-use crate::drawing::{label, order_title};
+use crate::drawing::label;
 use std::alloc::{AllocError, Global};
 use tx_acts::put_shown;
 use tx_import::NamedHistory;
 use tx_ring::{Subject, Tie, put_end, put_head, put_tie, reach_of};
-use tx_verdict::{Cycle, CycleStep, EdgeKind, Lemma, Refutation, Settled};
+use tx_verdict::{Cycle, CycleStep, EdgeKind};
 use tx_verdict_text::{cycle_word, edge_word, put_id};
 
 // Words before, between and behind the ids of two transactions.
@@ -285,8 +284,8 @@ fn put_ringed(
     put_last(out, rows, steps)
 }
 
-// Appends a cycle of these edges as an SVG, under a title.
-fn put_picture(
+/// Appends a cycle of these edges as an SVG, under a title.
+pub(crate) fn put_picture(
     alloc: Global,
     out: &mut Vec<u8>,
     history: &NamedHistory,
@@ -312,100 +311,5 @@ pub fn cycle_picture(
     let mut out = Vec::new(alloc);
     let title = cycle_word(cycle).as_bytes();
     put_picture(alloc, &mut out, history, title, cycle.steps.as_slice())?;
-    Ok(out)
-}
-
-// Appends the last round of a refutation.
-fn put_refuted(
-    alloc: Global,
-    out: &mut Vec<u8>,
-    history: &NamedHistory,
-    refutation: &Refutation,
-) -> Result<(), AllocError>
-    ensures { OnOk result (out.new.items ≡ out.old.items ++ refuted_picture history.now refutation.now) }
-{
-    put_picture(alloc, out, history, b"order", refutation.last.as_slice())
-}
-
-/// The last round of a refutation as an SVG.
-pub fn refuted_picture(
-    alloc: Global,
-    history: &NamedHistory,
-    refutation: &Refutation,
-) -> Result<Vec<u8>, AllocError>
-    ensures { IfOk result (λ text. text.items ≡ refuted_picture history.now refutation.now) }
-{
-    let mut out = Vec::new(alloc);
-    put_refuted(alloc, &mut out, history, refutation)?;
-    Ok(out)
-}
-
-// Appends the round that the opposite of an order closes.
-fn put_settled(
-    alloc: Global,
-    out: &mut Vec<u8>,
-    history: &NamedHistory,
-    fact: &Settled,
-) -> Result<(), AllocError>
-    ensures { OnOk result (out.new.items ≡ out.old.items ++ settled_picture history.now fact.now) }
-{
-    let title = order_title(alloc, history, fact.order)?;
-    put_picture(alloc, out, history, title.as_slice(), fact.round.as_slice())
-}
-
-// Appends the round that the opposites of a clause's orders close.
-fn put_lemma(
-    alloc: Global,
-    out: &mut Vec<u8>,
-    history: &NamedHistory,
-    lemma: &Lemma,
-) -> Result<(), AllocError>
-    ensures { OnOk result (out.new.items ≡ out.old.items ++ lemma_picture history.now lemma.now) }
-{
-    put_picture(alloc, out, history, b"clause", lemma.round.as_slice())
-}
-
-// Appends the rounds of orders.
-fn put_all_settled(
-    alloc: Global,
-    out: &mut Vec<u8>,
-    history: &NamedHistory,
-    facts: &[Settled],
-) -> Result<(), AllocError>
-    ensures { OnOk result (out.new.items ≡ out.old.items ++ flat_map (settled_picture history.now) facts.now) }
-{
-    for fact in facts {
-        put_settled(alloc, out, history, fact)?;
-    }
-    Ok(())
-}
-
-// Appends the rounds of clauses.
-fn put_all_lemmas(
-    alloc: Global,
-    out: &mut Vec<u8>,
-    history: &NamedHistory,
-    lemmas: &[Lemma],
-) -> Result<(), AllocError>
-    ensures { OnOk result (out.new.items ≡ out.old.items ++ flat_map (lemma_picture history.now) lemmas.now) }
-{
-    for lemma in lemmas {
-        put_lemma(alloc, out, history, lemma)?;
-    }
-    Ok(())
-}
-
-/// The rounds of a refutation, each as an SVG, one behind the other.
-pub fn refuted_pictures(
-    alloc: Global,
-    history: &NamedHistory,
-    refutation: &Refutation,
-) -> Result<Vec<u8>, AllocError>
-    ensures { IfOk result (λ text. text.items ≡ refuted_pictures history.now refutation.now) }
-{
-    let mut out = Vec::new(alloc);
-    put_all_settled(alloc, &mut out, history, refutation.facts.as_slice())?;
-    put_all_lemmas(alloc, &mut out, history, refutation.lemmas.as_slice())?;
-    put_refuted(alloc, &mut out, history, refutation)?;
     Ok(out)
 }

@@ -20,8 +20,8 @@ const QUESTIONS: &str = "At a terminal:
   :help         All steps, and these words
   :keys         What stands on each key: its lock, its records, its long values
   :sessions     The live sessions, each with its last line and the reply to it
-  :held         The requests that are held and were not delivered, and where they go
-  :why          Why the last line was refused that was, and which line had caused it
+  :held         The requests held and not delivered yet, and where they go
+  :why          Why the last refused line was refused, and which line caused it
   :steps        The steps of the one-step machine so far
   :machine      What a session that begins now would read of that machine
   :explain      The run so far, as txkv explain shows it

@@ -3,11 +3,13 @@
 #![tactic(auto)]
 
 mod lists;
+mod order;
 mod reach;
 mod ways;
 mod web;
 
 pub use lists::Lists;
-pub use reach::{ChainOrder, Finds, TopologicalOrder, groups_of, taken_of};
+pub use order::{TopologicalOrder, taken_of};
+pub use reach::{ChainOrder, Finds, groups_of};
 pub use ways::{Paths, ends_of, note_used};
 pub use web::{Link, LinkReason, Loose, Web, commit_of, loose_chains, start_of, web_of};

@@ -1,7 +1,7 @@
 use Rattle.std.proofs.Common.{◌++◌, get_or, ap, ◌∙◌}
 use Rattle.tx_diagram.specs.Pictures.{settled_picture}
 use Rattle.tx_diagram.proofs.Pieces.{piece_more}
-use Rattle.tx_diagram.proofs.picture.put_all_settled.Goals as goal
+use Rattle.tx_diagram.proofs.refutation.put_all_settled.Goals as goal
 
 pub loop-fact-preserved : goal.loop-fact-preserved
 loop-fact-preserved c =

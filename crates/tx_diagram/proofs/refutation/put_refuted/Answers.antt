@@ -1,7 +1,7 @@
 use Rattle.std.proofs.Common.{◌++◌, codes, ap, ◌∙◌}
 use Rattle.tx_diagram.specs.Pictures.{picture_of}
 use Rattle.tx_ring.proofs.Pieces.{on_so}
-use Rattle.tx_diagram.proofs.picture.put_refuted.Goals as goal
+use Rattle.tx_diagram.proofs.refutation.put_refuted.Goals as goal
 
 pub returns : goal.returns
 returns c =

@@ -1,7 +1,7 @@
 use Rattle.std.proofs.Common.{◌≡◌, ◌++◌, take}
 use Rattle.std.specs.List.{flat_map}
 use Rattle.tx_diagram.specs.Pictures.{lemma_picture}
-use Rattle.tx_diagram.proofs.picture.put_all_lemmas.Given as goal
+use Rattle.tx_diagram.proofs.refutation.put_all_lemmas.Given as goal
 
 abbrev pub invariant-loop-lemma : goal.invariant-loop-lemma
 invariant-loop-lemma l =

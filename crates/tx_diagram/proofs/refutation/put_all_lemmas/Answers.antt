@@ -1,7 +1,7 @@
 use Rattle.std.proofs.Common.{◌++◌, get_or, ap, ◌∙◌}
 use Rattle.tx_diagram.specs.Pictures.{lemma_picture}
 use Rattle.tx_diagram.proofs.Pieces.{piece_more}
-use Rattle.tx_diagram.proofs.picture.put_all_lemmas.Goals as goal
+use Rattle.tx_diagram.proofs.refutation.put_all_lemmas.Goals as goal
 
 pub loop-lemma-preserved : goal.loop-lemma-preserved
 loop-lemma-preserved c =

@@ -1,7 +1,7 @@
 use Rattle.std.proofs.Common.{subst}
 use Rattle.tx_answers.specs.Texts.{IsTextIn}
 use Rattle.tx_answers.proofs.Known.{if_so}
-use Rattle.tx_answers.proofs.answer.answer_text.Goals as goal
+use Rattle.tx_answers.proofs.text.answer_text.Goals as goal
 
 pub returns : goal.returns
 returns c =
