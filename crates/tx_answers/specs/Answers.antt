@@ -47,7 +47,7 @@ line_of (Mixed k t u) = max t u + 1
 
 -- what the recorder got wrong: the fault of a line
 abbrev pub IsMisread : NamedHistory → List ℕ → ImportEnd → Type 0
-IsMisread h text end = (m : Misrecorded) × IsMisrecorded h.recording m
+IsMisread h text end = (m : Misrecorded) × IsMisrecorded h m
     × (text ≡ reply_text (line_of m, fault_words Form)) × (end ≡ Faulted)
 
 -- what is said of a history, in which maybe some have no operations that failed and of whom nobody

@@ -184,7 +184,7 @@ fn heard(alloc: Global, options: AnswerOptions, history: NamedHistory) -> Result
     requires in_turn { AreInTurn history.recording.transactions.items }
     ensures { IfOk result (λ answer. IsHeard options history answer.text.items answer.end) }
 {
-    match find_misrecorded(alloc, &history.recording)? {
+    match find_misrecorded(alloc, &history)? {
         Some(wrong) => misread(alloc, &history, wrong),
         None => heard_bare(alloc, options, history),
     }

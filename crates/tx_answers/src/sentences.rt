@@ -315,7 +315,7 @@ impl<'a> Sentence<'a> {
                 self.line(first)?;
                 self.say(" has a list, and ")?;
                 self.line(second)?;
-                self.say(" writes a register\n")
+                self.say(" has a register\n")
             }
         }
     }

@@ -5,7 +5,7 @@ use tx_sentences::InputKind;
 use tx_types::Cause;
 
 // Lines of other commands that are faults, and why.
-static OTHERS: [(InputKind, &str, Cause, &str); 17] = [
+static OTHERS: [(InputKind, &str, Cause, &str); 18] = [
     (
         InputKind::Trace,
         r#"["begin","A"]"#,
@@ -23,6 +23,12 @@ static OTHERS: [(InputKind, &str, Cause, &str); 17] = [
         r#"{"process":[1],"type":"ok","ops":[]}"#,
         Cause::Form,
         r#"form: "process" is no string of 1 to 512 bytes and no whole number below 2^64"#,
+    ),
+    (
+        InputKind::History,
+        r#"{"type":"ok","id":1,"i\u0064":2,"ops":[]}"#,
+        Cause::Form,
+        r#"form: the transaction has "id" twice"#,
     ),
     (
         InputKind::History,

@@ -40,6 +40,9 @@ act_there : (values : List KeyedValue) (xs : List ℕ) (key : ℕ) (a : Act) (s 
 act_there values xs key (act.Append v) (said.Append name) h = slice_get_within values v _ h
 act_there values xs key (act.Write v) (said.Write name) h = slice_get_within values v _ h
 act_there values xs key (act.Read span) (said.Read names) h = h.0
+act_there values xs key (act.Read span) (said.ReadList names) h = h.0
+act_there values xs key (act.Append v) (said.ReadList names) h = absurd h
+act_there values xs key (act.Write v) (said.ReadList names) h = absurd h
 act_there values xs key (act.Append v) (said.Write name) h = absurd h
 act_there values xs key (act.Append v) (said.Read names) h = absurd h
 act_there values xs key (act.Write v) (said.Append name) h = absurd h

@@ -1,8 +1,8 @@
 -- What was said of a part of a recording holds as more is added behind it.
-use Rattle.std.proofs.Common.{◌≡◌, ℕ, ◌+◌, ◌-◌, ◌<◌, ◌≤◌, List, [], ◌∷◌, ◌++◌, length, take, drop, get_or, Option, Some, None, slice_get, slice_range, refl, sym, ap, subst, ◌∙◌, append_assoc, append-nil, length-append, length-drop, arith, All}
+use Rattle.std.proofs.Common.{◌≡◌, ℕ, ◌+◌, ◌-◌, ◌<◌, ◌≤◌, Bool, List, [], ◌∷◌, ◌++◌, length, take, drop, get_or, Option, Some, None, slice_get, slice_range, refl, sym, ap, subst, ◌∙◌, append_assoc, append-nil, length-append, length-drop, arith, All}
 use Rattle.std.specs.List.{AllZip}
 use Rattle.std.proofs.lemmas.Option.{slice_get_within, slice_get-get_or, get_or_from_slice_get}
-use Rattle.std.proofs.lemmas.List.{drop-append-le, take-append-le, take_more}
+use Rattle.std.proofs.lemmas.List.{drop-append-le, map_push, take-append-le, take_more}
 use Rattle.std.proofs.lemmas.List.Elements.{All-weaker, All-push}
 use Rattle.std.proofs.Math.ListN.{get_or-append}
 use Rattle.std.proofs.Math.Seq.{drop-append_seam, take-length}
@@ -19,7 +19,7 @@ use Rattle.tx_import.specs.declared.line_content.SaidOp.{SaidOp}
 use Rattle.tx_import.specs.declared.line_content.SaidTransaction.{SaidTransaction}
 use Rattle.tx_import.specs.declared.draft.Tables.{Tables}
 use Rattle.tx_import.specs.declared.draft.Draft.{Draft}
-use Rattle.tx_import.specs.Numbers.{Grows, IsValueOf, AreValuesOf, IsActSaid, IsOpSaid, AreOpsSaid, IsProcessSaid, IsTransactionSaid}
+use Rattle.tx_import.specs.Numbers.{Grows, IsValueOf, AreValuesOf, IsActSaid, IsOpSaid, AreOpsSaid, IsProcessSaid, IsTransactionSaid, reads_list, are_lists}
 use Rattle.tx_import.specs.Drafts.{GrowsTables, GrowsDraft, AddsOps}
 
 -- ---- growing
@@ -34,6 +34,7 @@ pub tables_none : (t : Tables) → GrowsTables t t
 tables_none t = record {
   keys = grows_none t.keys;
   values = grows_none t.values;
+  lists = grows_none t.lists.items;
   processes = grows_none t.processes;
 }
 
@@ -41,6 +42,7 @@ pub tables_then : (a b c : Tables) → GrowsTables a b → GrowsTables b c → G
 tables_then a b c f g = record {
   keys = grows_then a.keys b.keys c.keys f.keys g.keys;
   values = grows_then a.values b.values c.values f.values g.values;
+  lists = grows_then a.lists.items b.lists.items c.lists.items f.lists g.lists;
   processes = grows_then a.processes b.processes c.processes f.processes g.processes;
 }
 
@@ -122,6 +124,15 @@ act_grows old new xs ys key (act.Read span) (said.Read names) g e h =
     let longer = length_grows xs ys e in
     let P : List ℕ → Type 0 = λ l. AreValuesOf new key l names in
     (omega (arith, longer, h.0), subst P (sym same) (values_grow old new key _ names g h.1))
+act_grows old new xs ys key (act.Read span) (said.ReadList names) g e h =
+    let upto = span.first + span.count in
+    let same : slice_range ys span.first upto ≡ slice_range xs span.first upto =
+    range_grows xs ys span.first upto e (omega arith) h.0 in
+    let longer = length_grows xs ys e in
+    let P : List ℕ → Type 0 = λ l. AreValuesOf new key l names in
+    (omega (arith, longer, h.0), subst P (sym same) (values_grow old new key _ names g h.1))
+act_grows old new xs ys key (act.Append v) (said.ReadList names) g e h = absurd h
+act_grows old new xs ys key (act.Write v) (said.ReadList names) g e h = absurd h
 act_grows old new xs ys key (act.Append v) (said.Write name) g e h = absurd h
 act_grows old new xs ys key (act.Append v) (said.Read names) g e h = absurd h
 act_grows old new xs ys key (act.Write v) (said.Append name) g e h = absurd h
@@ -156,6 +167,7 @@ transaction_grows old new t s g h =
     let same : slice_range new.ops.items t.first t.upto ≡ slice_range old.ops.items t.first t.upto =
     range_grows old.ops.items new.ops.items t.first t.upto g.ops h.range.0 h.range.1 in
     let P : List RecordedOp → Type 0 = λ l. AreOpsSaid new.tables new.elements.items l s.ops in
+    let lists = length_grows old.tables.lists.items new.tables.lists.items g.tables.lists in
     record {
       id = h.id;
       outcome = h.outcome;
@@ -166,6 +178,9 @@ transaction_grows old new t s g h =
       range = (h.range.0, omega (arith, longer, h.range.1));
       ops_said = subst P (sym same)
           (ops_grow old.tables new.tables old.elements.items new.elements.items _ s.ops g.tables g.elements h.ops_said);
+      lists = omega (arith, lists, h.lists);
+      lists_said = range_grows old.tables.lists.items new.tables.lists.items t.first t.upto g.tables.lists h.range.0
+          h.lists ∙ h.lists_said;
     }
 
 -- ---- one more
@@ -227,3 +242,12 @@ ops_more start mid new saids i s within is g (os, e, before) (ps, f, one) =
       f ∙ ap (λ l. l ++ ps) e ∙ append_assoc start.ops.items os ps,
       subst P (sym (next_of saids i s within is)) all,
     )
+
+-- whether one more is a read of a list
+pub lists_more : (start mid new : List Bool) (saids : List SaidOp) (i : ℕ) (s : SaidOp) → i < length saids
+    → s ≡ get_or saids i s → mid ≡ start ++ are_lists (take i saids) → new ≡ mid ++ reads_list s.act ∷ []
+    → new ≡ start ++ are_lists (take (i + 1) saids)
+lists_more start mid new saids i s within is before more =
+    let one = ap are_lists (next_of saids i s within is) ∙ map_push (λ o. reads_list o.act) (take i saids) s in
+    more ∙ ap (λ l. l ++ reads_list s.act ∷ []) before
+    ∙ append_assoc start (are_lists (take i saids)) (reads_list s.act ∷ []) ∙ ap (λ l. start ++ l) (sym one)

@@ -1,20 +1,36 @@
 -- The lines of a history that were read, and the draft of what they say.
-use Rattle.std.proofs.Common.{◌≡◌, ℕ, suc, ◌+◌, ◌^◌, ◌<◌, ◌≤◌, ◌↔◌, Bool, false, IsTrue, true≢false, List, [], ◌∷◌, ◌++◌, length, Option, Some, None, IfSome, Ok, refl, sym, ap, subst, ◌∙◌, append_assoc, append-nil, add-zero, length-append, arith, inl, inr}
+use Rattle.std.proofs.Common.{◌≡◌, ℕ, suc, ◌+◌, ◌^◌, ◌<◌, ◌≤◌, ◌↔◌, Bool, true, false, nat_lt, if◌then◌else◌, IsTrue, true≢false, List, [], ◌∷◌, ◌++◌, length, Option, Some, None, IfSome, Ok, Err, refl, sym, ap, subst, ◌∙◌, append_assoc, append-nil, add-zero, length-append, arith, inl, inr}
+use Rattle.std.specs.Str.{is_utf8}
 use Rattle.std.proofs.lemmas.Bool.{cases_lt}
+use Rattle.serde_json.specs.Data.{Data}
+use Rattle.serde_json.specs.Read.{read}
 use Rattle.tx_types.specs.declared.fault.Cause.{Cause}
-use Rattle.tx_text.specs.Lines.{lines_of}
+use Rattle.tx_types.specs.declared.fault.Cause.TheVariants.{Long, Lines}
+use Rattle.tx_text.specs.Lines.{max_line, max_lines, lines_of}
 use Rattle.tx_import.specs.declared.line_content.SaidTransaction.{SaidTransaction}
 use Rattle.tx_import.specs.declared.draft.Draft.{Draft}
 use Rattle.tx_import.specs.declared.reader.NamedHistory.{NamedHistory}
 use Rattle.tx_import.specs.declared.reader.HistoryTurn.TheVariants as turn
 use Rattle.tx_import.specs.Drafts.{held, IsDraftOf}
-use Rattle.tx_import.specs.Histories.{said_in, Say, total, IsHistory, IsHistoryOf, SayUpTo, IsFault, IsFaultOf}
+use Rattle.tx_import.specs.Histories.{said_in, or_json, Says, Say, total, IsHistory, IsHistoryOf, SayUpTo, IsFault, IsFaultOf}
 use Rattle.tx_import.specs.Turns.{HistoryTurns, Refuses}
 use Rattle.tx_import.proofs.Drafted.{draft_adds}
 
 pub if_some : {X : Type 0} {P Q : X → Type 0} (o : Option X) → ((x : X) → P x → Q x) → IfSome o P → IfSome o Q
 if_some None f h = tt
 if_some (Some x) f h = f x h
+
+-- a line that says a transaction is UTF-8
+pub says_text : (number : ℕ) (line : List ℕ) (t : SaidTransaction) → said_in number line ≡ Ok t → is_utf8 line ≡ true
+says_text number line t is =
+    go (nat_lt max_line (length line)) (nat_lt max_lines number) (is_utf8 line) (read line) is
+  where
+    go : (long late text : Bool) (o : Option Data) → (if long then Err Long else (if late then Err Lines
+        else or_json number (if text then o else None))) ≡ Ok t → text ≡ true
+    go true late text o e = cc
+    go false true text o e = cc
+    go false false true o e = refl
+    go false false false o e = cc
 
 -- the lines before those that are left say what the draft holds
 pub record SoFar (input : List ℕ) (left : Option (List ℕ)) (d : Draft) (number : ℕ) : Type 0 where
@@ -57,14 +73,14 @@ left_at P left rest is turns = subst (λ o. IfSome o P) is turns
 
 -- one more line says one more transaction
 Say-more : (number : ℕ) (lines : List (List ℕ)) (ts : List SaidTransaction) (line : List ℕ) (t : SaidTransaction)
-    → Say number lines ts → said_in (number + length lines) line ≡ Ok t
+    → Say number lines ts → Says (number + length lines) line t
     → Say number (lines ++ line ∷ []) (ts ++ t ∷ [])
-Say-more number [] [] line t says is = (subst (λ n. said_in n line ≡ Ok t) (add-zero number) is, tt)
+Say-more number [] [] line t says is = (subst (λ n. Says n line t) (add-zero number) is, tt)
 Say-more number [] (s ∷ ts) line t says is = absurd says
 Say-more number (l ∷ lines) [] line t says is = absurd says
 Say-more number (l ∷ lines) (s ∷ ts) line t says is =
     let place : number + suc (length lines) ≡ (number + 1) + length lines = omega arith in
-    (says.0, Say-more (number + 1) lines ts line t says.1 (subst (λ n. said_in n line ≡ Ok t) place is))
+    (says.0, Say-more (number + 1) lines ts line t says.1 (subst (λ n. Says n line t) place is))
 
 total-append : (xs ys : List SaidTransaction) → total (xs ++ ys) ≡ total xs + total ys
 total-append [] ys = omega arith
@@ -127,7 +143,7 @@ module _ {input : List ℕ} {left : Option (List ℕ)} {d : Draft} {number : ℕ
             ∙ sym (append_assoc soon.before (line ∷ []) (lines_of found.1));
         counted = length-append soon.before (line ∷ []) ∙ ap (λ n. n + 1) soon.counted;
         says = Say-more 1 soon.before soon.said line said soon.says
-            (subst (λ n. said_in n line ≡ Ok said) place found.5);
+            (subst (λ n. Says n line said) place found.5);
         drafted = draft_adds d next soon.said said adds.grows adds.adds soon.drafted;
         held_is = omega (arith, adds.held_is, soon.held_is, sum);
       }

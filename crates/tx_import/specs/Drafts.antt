@@ -7,7 +7,7 @@ use Rattle.tx_recording.specs.declared.recording.RecordedOp.{RecordedOp}
 use Rattle.tx_recording.specs.declared.recording.RecordedTransaction.{RecordedTransaction}
 use Rattle.tx_recording.specs.Recordings.{IsTransactionOf}
 use Rattle.tx_import.specs.declared.line_content.SaidAct.{SaidAct}
-use Rattle.tx_import.specs.declared.line_content.SaidAct.TheVariants.{Append, Write, Read}
+use Rattle.tx_import.specs.declared.line_content.SaidAct.TheVariants.{Append, Write, Read, ReadList}
 use Rattle.tx_import.specs.declared.line_content.SaidOp.{SaidOp}
 use Rattle.tx_import.specs.declared.line_content.SaidTransaction.{SaidTransaction}
 use Rattle.tx_import.specs.declared.draft.Tables.{Tables}
@@ -19,6 +19,7 @@ abbrev pub width : SaidAct → ℕ
 width (Append v) = 0
 width (Write v) = 0
 width (Read vs) = length vs
+width (ReadList vs) = length vs
 
 -- how many operations there are, and values that they read
 abbrev pub weight : List SaidOp → ℕ
@@ -33,6 +34,7 @@ held d = length d.ops.items + length d.elements.items
 pub record GrowsTables (old new : Tables) : Type 0 where
   pub keys : Grows old.keys new.keys
   pub values : Grows old.values new.values
+  pub lists : Grows old.lists.items new.lists.items
   pub processes : Grows old.processes new.processes
 
 -- names, operations and values that were read were added
@@ -55,6 +57,7 @@ IsOpIn keys values elements o = (o.key < keys) × IsActIn values elements o.act
 pub record FitsOps (d : Draft) : Type 0 where
   pub keys : length d.tables.keys ≤ length d.ops.items
   pub values : length d.tables.values ≤ held d
+  pub lists : length d.tables.lists.items ≡ length d.ops.items
   pub few : held d < 2 ^ 32
   pub ops : All (IsOpIn (length d.tables.keys) (length d.tables.values) (length d.elements.items)) d.ops.items
   pub elements : All (λ v. v < length d.tables.values) d.elements.items

@@ -11,6 +11,7 @@ use Rattle.tx_import.specs.declared.line_content.SaidTransaction.{SaidTransactio
 use Rattle.tx_import.specs.declared.reader.NamedHistory.{NamedHistory}
 use Rattle.tx_import.specs.declared.reader.LineFault.{LineFault}
 use Rattle.tx_import.specs.Said.{transaction_of}
+use Rattle.tx_import.specs.MemberNames.{HasOneTwice, HasNoneTwice}
 use Rattle.tx_import.specs.Numbers.{AreApart, IsTransactionSaid}
 use Rattle.tx_import.specs.Drafts.{weight}
 
@@ -32,10 +33,19 @@ said_in number line =
     else (if nat_lt max_lines number then Err Lines
     else or_json number (json_of line))
 
+-- the line of this number says this transaction, and has no member twice
+abbrev pub Says : ℕ → List ℕ → SaidTransaction → Type 0
+Says number line t = (said_in number line ≡ Ok t) × HasNoneTwice line
+
+-- the line says none, for this cause: the one that is found first, or that it has a member twice
+abbrev pub SaysNone : ℕ → List ℕ → Cause → Type 0
+SaysNone number line cause = (said_in number line ≡ Err cause)
+    ⊎ ((t : SaidTransaction) × (said_in number line ≡ Ok t) × HasOneTwice line × (cause ≡ Form))
+
 -- the lines, the first of which has this number, say these transactions one by one
 abbrev pub Say : ℕ → List (List ℕ) → List SaidTransaction → Type 0
 Say number [] [] = Unit {0}
-Say number (line ∷ lines) (t ∷ ts) = (said_in number line ≡ Ok t) × Say (number + 1) lines ts
+Say number (line ∷ lines) (t ∷ ts) = Says number line t × Say (number + 1) lines ts
 Say number _ _ = ⊥
 
 -- how many operations transactions have, and values that they read
@@ -73,8 +83,8 @@ IsTooMuch said t = 2 ^ 32 ≤ total said + weight t.ops
 
 -- the line says no transaction, or is one too many
 abbrev pub IsFault : List ℕ → List SaidTransaction → LineFault → Type 0
-IsFault line said fault = (said_in fault.number line ≡ Err fault.cause)
-    ⊎ ((t : SaidTransaction) × (said_in fault.number line ≡ Ok t) × IsTooMuch said t × (fault.cause ≡ Lines))
+IsFault line said fault = SaysNone fault.number line fault.cause
+    ⊎ ((t : SaidTransaction) × Says fault.number line t × IsTooMuch said t × (fault.cause ≡ Lines))
 
 -- the first line that says no transaction, or is one too many
 abbrev pub IsFaultOf : List (List ℕ) → LineFault → Type 0

@@ -1,4 +1,5 @@
 pub mod Said
+pub mod MemberNames
 pub mod Numbers
 pub mod Drafts
 pub mod Histories

@@ -1,5 +1,5 @@
 -- The numbers that a recording has in place of names, and how it stands to what its lines say.
-use Rattle.std.specs.Prelude.{◌≡◌, ◌≢◌, ℕ, ◌+◌, ◌≤◌, List, ◌++◌, length, Option, Some, None, slice_get, slice_range}
+use Rattle.std.specs.Prelude.{◌≡◌, ◌≢◌, ℕ, ◌+◌, ◌≤◌, Bool, true, false, List, ◌++◌, map, length, Option, Some, None, slice_get, slice_range}
 use Rattle.std.specs.List.{AllZip, AllPairs}
 use Rattle.tx_recording.specs.declared.recording.Act.{Act}
 use Rattle.tx_recording.specs.declared.recording.Act.TheVariants as act
@@ -44,6 +44,8 @@ IsActSaid values elements key (act.Append v) (said.Append value) = IsValueOf val
 IsActSaid values elements key (act.Write v) (said.Write value) = IsValueOf values key v value
 IsActSaid values elements key (act.Read span) (said.Read found) = (span.first + span.count ≤ length elements)
     × AreValuesOf values key (slice_range elements span.first (span.first + span.count)) found
+IsActSaid values elements key (act.Read span) (said.ReadList found) = (span.first + span.count ≤ length elements)
+    × AreValuesOf values key (slice_range elements span.first (span.first + span.count)) found
 IsActSaid values elements key _ _ = ⊥
 
 -- an operation is what was said of it
@@ -53,6 +55,17 @@ IsOpSaid tables elements op said = IsNameOf tables.keys op.key said.key
 
 abbrev pub AreOpsSaid : Tables → List ℕ → List RecordedOp → List SaidOp → Type 0
 AreOpsSaid tables elements ops said = AllZip (IsOpSaid tables elements) ops said
+
+-- it is a read of a list
+abbrev pub reads_list : SaidAct → Bool
+reads_list (said.Append v) = false
+reads_list (said.Write v) = false
+reads_list (said.Read found) = false
+reads_list (said.ReadList found) = true
+
+-- of each operation, whether it is
+abbrev pub are_lists : List SaidOp → List Bool
+are_lists said = map (λ o. reads_list o.act) said
 
 -- a process is the one that was said, where one was
 abbrev pub IsProcessSaid : List Name → Option ℕ → Option Name → Type 0
@@ -70,3 +83,5 @@ pub record IsTransactionSaid (tables : Tables) (elements : List ℕ) (ops : List
   pub ended : t.ended ≡ said.ended
   pub range : (t.first ≤ t.upto) × (t.upto ≤ length ops)
   pub ops_said : AreOpsSaid tables elements (slice_range ops t.first t.upto) said.ops
+  pub lists : t.upto ≤ length tables.lists.items
+  pub lists_said : slice_range tables.lists.items t.first t.upto ≡ are_lists said.ops

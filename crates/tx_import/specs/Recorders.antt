@@ -1,14 +1,14 @@
 -- What a recorder got wrong, and what is left of a recording without those whose writes came to
 -- nothing.
-use Rattle.std.specs.Prelude.{◌≡◌, ◌⊎◌, ℕ, ◌<◌, ◌≤◌, Bool, true, false, List, length, Contains, Some, slice_index_or}
+use Rattle.std.specs.Prelude.{◌≡◌, ◌⊎◌, ℕ, ◌+◌, ◌&&◌, ◌<◌, ◌≤◌, Bool, true, false, not, List, length, nat_le, Contains, Some, slice_index_or}
+use Rattle.tx_recording.specs.declared.recording.Act.{Act}
 use Rattle.tx_recording.specs.declared.recording.Act.TheVariants.{Append, Write, Read}
 use Rattle.tx_recording.specs.declared.recording.RecordedOutcome.TheVariants.{Fail}
 use Rattle.tx_recording.specs.declared.recording.RecordedOp.{RecordedOp}
-use Rattle.tx_recording.specs.declared.recording.Span.{Span}
 use Rattle.tx_recording.specs.declared.recording.RecordedTransaction.{RecordedTransaction}
 use Rattle.tx_recording.specs.declared.recording.Recording.{Recording}
 use Rattle.tx_recording.specs.Recordings.{txns_of, transaction_at, no_transaction, ops_of}
-use Rattle.tx_recording.specs.Explanations.{Puts}
+use Rattle.tx_recording.specs.Explanations.{Puts, op_at}
 use Rattle.tx_import.specs.declared.reader.NamedHistory.{NamedHistory}
 use Rattle.tx_import.specs.declared.recorder.Misrecorded.{Misrecorded}
 use Rattle.tx_import.specs.declared.recorder.Misrecorded.TheVariants.{Empty, EndsEarly, SameId, Mixed}
@@ -18,30 +18,44 @@ abbrev pub IsBackward : Recording → ℕ → Type 0
 IsBackward r t = (b : ℕ) × (e : ℕ) × (e < b) × ((transaction_at r t).began ≡ Some b)
     × ((transaction_at r t).ended ≡ Some e)
 
--- it appended to the key
-abbrev pub AppendsTo : Recording → ℕ → ℕ → Type 0
-AppendsTo r t k = (o : RecordedOp) × (v : ℕ) × Contains (ops_of r t) o × (o.key ≡ k) × (o.act ≡ Append v)
+-- one before the other has its id
+abbrev pub HaveOneId : Recording → ℕ → ℕ → Type 0
+HaveOneId r t u = (t < u) × (u < txns_of r) × ((transaction_at r t).id ≡ (transaction_at r u).id)
 
--- it wrote the key
-abbrev pub WritesTo : Recording → ℕ → ℕ → Type 0
-WritesTo r t k = (o : RecordedOp) × (v : ℕ) × Contains (ops_of r t) o × (o.key ≡ k) × (o.act ≡ Write v)
+-- an act on a list: an append, or a read that is told to be of one
+abbrev pub is_of_list : Act → Bool → Bool
+is_of_list (Append v) told = true
+is_of_list (Write v) told = false
+is_of_list (Read span) told = told
 
--- it read several values of the key
-abbrev pub ReadsList : Recording → ℕ → ℕ → Type 0
-ReadsList r t k = (o : RecordedOp) × (span : Span) × Contains (ops_of r t) o × (o.key ≡ k) × (o.act ≡ Read span)
-    × (2 ≤ span.count)
+-- an act on a register: a write, or a read of a value that is not told to be of a list
+abbrev pub is_of_register : Act → Bool → Bool
+is_of_register (Append v) told = false
+is_of_register (Write v) told = true
+is_of_register (Read span) told = not told && nat_le 1 span.count
 
--- for t the key held a list
-abbrev pub IsListOf : Recording → ℕ → ℕ → Type 0
-IsListOf r t k = AppendsTo r t k ⊎ ReadsList r t k
+-- the one, or else the other
+abbrev pub is_one_as : Bool → Act → Bool → Bool
+is_one_as true a told = is_of_list a told
+is_one_as false a told = is_of_register a told
 
--- there is no transaction; one ended before it began; two have one id; a key held a list for the
--- one, and the other wrote it
-abbrev pub IsMisrecorded : Recording → Misrecorded → Type 0
-IsMisrecorded r Empty = txns_of r ≡ 0
-IsMisrecorded r (EndsEarly t) = (t < txns_of r) × IsBackward r t
-IsMisrecorded r (SameId t u) = (t < u) × (u < txns_of r) × ((transaction_at r t).id ≡ (transaction_at r u).id)
-IsMisrecorded r (Mixed k t u) = (t < txns_of r) × (u < txns_of r) × IsListOf r t k × WritesTo r u k
+-- whether the operation of t at p is told to be a read of a list
+abbrev pub told_at : NamedHistory → ℕ → ℕ → Bool
+told_at h t p = slice_index_or h.tables.lists.items ((transaction_at h.recording t).first + p) false
+
+-- t has an operation on the key as a list, or else as a register
+abbrev pub HasKeyAs : NamedHistory → ℕ → ℕ → Bool → Type 0
+HasKeyAs h t k list = (p : ℕ) × (p < length (ops_of h.recording t)) × ((op_at h.recording t p).key ≡ k)
+    × (is_one_as list (op_at h.recording t p).act (told_at h t p) ≡ true)
+
+-- there is no transaction; one ended before it began; two have one id; the one has a key as a list,
+-- and the other as a register
+abbrev pub IsMisrecorded : NamedHistory → Misrecorded → Type 0
+IsMisrecorded h Empty = txns_of h.recording ≡ 0
+IsMisrecorded h (EndsEarly t) = (t < txns_of h.recording) × IsBackward h.recording t
+IsMisrecorded h (SameId t u) = HaveOneId h.recording t u
+IsMisrecorded h (Mixed k t u) = (t < txns_of h.recording) × (u < txns_of h.recording) × HasKeyAs h t k true
+    × HasKeyAs h u k false
 
 -- there is a transaction, and none ended before it began
 abbrev pub IsTimely : Recording → Type 0

@@ -10,7 +10,7 @@ use Rattle.tx_import.specs.declared.name.Name.TheVariants.{Text, Number}
 use Rattle.tx_import.specs.declared.name.Scalar.{Scalar}
 use Rattle.tx_import.specs.declared.name.Scalar.TheVariants as scalar
 use Rattle.tx_import.specs.declared.line_content.SaidAct.{SaidAct}
-use Rattle.tx_import.specs.declared.line_content.SaidAct.TheVariants.{Append, Write, Read}
+use Rattle.tx_import.specs.declared.line_content.SaidAct.TheVariants.{Append, Write, Read, ReadList}
 use Rattle.tx_import.specs.declared.line_content.SaidOp.{SaidOp}
 use Rattle.tx_import.specs.declared.line_content.SaidTransaction.{SaidTransaction}
 
@@ -30,19 +30,20 @@ scalar_of d = if is_some (number_of d) then option_map scalar.Number (number_of 
     else (if is_some (as_bool d) then option_map scalar.Truth (as_bool d)
     else option_map scalar.Text (value_of d)))
 
--- what a read found: null for nothing, or one value
+-- what a read of a register found: null for nothing, or one value
 abbrev pub value_alone : Data → Option (List Scalar)
 value_alone d = if is_some (as_null d) then Some [] else option_map (λ x. x ∷ []) (scalar_of d)
 
--- what a read found: a list of values, null for nothing, or one value
-abbrev pub values_of : Data → Option (List Scalar)
-values_of d = if is_some (as_array d) then list_of scalar_of d else value_alone d
+-- a read: of a list with its values; of a register with null for nothing, or one value
+abbrev pub read_of : Data → Option SaidAct
+read_of d = if is_some (as_array d) then option_map ReadList (list_of scalar_of d)
+    else option_map Read (value_alone d)
 
 -- what an operation did: "append" a value, write it ("w"), or read values ("r")
 abbrev pub act_of : Data → Data → Option SaidAct
 act_of word d = option_and_then (λ w. if bytes_eq w (codes "append") then option_map Append (scalar_of d)
     else (if bytes_eq w (codes "w") then option_map Write (scalar_of d)
-    else (if bytes_eq w (codes "r") then option_map Read (values_of d) else None))) (as_str word)
+    else (if bytes_eq w (codes "r") then read_of d else None))) (as_str word)
 
 -- an operation, by its members
 abbrev pub op_of_items : Items → Option SaidOp

@@ -1,5 +1,5 @@
 -- What comes of the next line of a history. Only this crate's own clauses cite it.
-use Rattle.std.specs.Prelude.{◌≡◌, ◌⊎◌, ℕ, ◌+◌, ◌^◌, ◌≤◌, List, [], ◌∷◌, Option, Some, Ok, Err}
+use Rattle.std.specs.Prelude.{◌≡◌, ◌⊎◌, ℕ, ◌+◌, ◌^◌, ◌≤◌, List, [], ◌∷◌, Option, Some}
 use Rattle.tx_types.specs.declared.fault.Cause.{Cause}
 use Rattle.tx_types.specs.declared.fault.Cause.TheVariants.{Lines}
 use Rattle.tx_text.specs.Lines.{lines_of}
@@ -8,7 +8,7 @@ use Rattle.tx_import.specs.declared.draft.Draft.{Draft}
 use Rattle.tx_import.specs.declared.reader.HistoryTurn.{HistoryTurn}
 use Rattle.tx_import.specs.declared.reader.HistoryTurn.TheVariants.{End, Put, Faulted}
 use Rattle.tx_import.specs.Drafts.{weight, held, GrowsDraft, AddsTransaction}
-use Rattle.tx_import.specs.Histories.{said_in}
+use Rattle.tx_import.specs.Histories.{Says, SaysNone}
 
 -- the transaction of the line was added
 pub record Adds (old new : Draft) (said : SaidTransaction) : Type 0 where
@@ -18,14 +18,14 @@ pub record Adds (old new : Draft) (said : SaidTransaction) : Type 0 where
 
 -- the line says no transaction, or there is no room for it
 abbrev pub Refuses : Draft → ℕ → List ℕ → Cause → Type 0
-Refuses d number line cause = (said_in number line ≡ Err cause)
-    ⊎ ((t : SaidTransaction) × (said_in number line ≡ Ok t) × (2 ^ 32 ≤ held d + weight t.ops) × (cause ≡ Lines))
+Refuses d number line cause = SaysNone number line cause
+    ⊎ ((t : SaidTransaction) × Says number line t × (2 ^ 32 ≤ held d + weight t.ops) × (cause ≡ Lines))
 
 -- what came of the first line of these bytes, which has this number
 abbrev pub HistoryTurns : List ℕ → Option (List ℕ) → Draft → Draft → ℕ → HistoryTurn → Type 0
 HistoryTurns bytes left old new number End = (bytes ≡ []) × (new ≡ old)
 HistoryTurns bytes left old new number Put = (line : List ℕ) × (rest : List ℕ) × (said : SaidTransaction)
     × (left ≡ Some rest) × (lines_of bytes ≡ line ∷ lines_of rest)
-    × (said_in number line ≡ Ok said) × Adds old new said
+    × Says number line said × Adds old new said
 HistoryTurns bytes left old new number (Faulted cause) = (line : List ℕ) × (more : List (List ℕ))
     × (lines_of bytes ≡ line ∷ more) × Refuses old number line cause

@@ -1,6 +1,6 @@
 //! A recording as its lines come.
 ghost use Rattle.std.specs.Prelude.{◌≡◌, ◌≤◌, ◌<◌, ◌+◌, ◌^◌, ◌++◌, ◌∷◌, ◌↔◌, [], ℕ, List, All, length, slice_range, IfOk, OnOk, IsTrue};
-ghost use Rattle.tx_import.specs.Numbers.{Grows, AreValuesOf, IsActSaid, IsProcessSaid};
+ghost use Rattle.tx_import.specs.Numbers.{Grows, AreValuesOf, IsActSaid, IsProcessSaid, reads_list, are_lists};
 ghost use Rattle.tx_import.specs.Drafts.{width, weight, held, GrowsDraft, FitsOps, FitsDraft, AddsOps, AddsTransaction, IsDraftOf};
 
 use crate::line_content::{SaidAct, SaidOp, SaidTransaction};
@@ -9,12 +9,14 @@ use crate::names::{Names, Values};
 use std::alloc::{AllocError, Global};
 use tx_recording::{Act, RecordedOp, RecordedTransaction, Span};
 
-/// The numbers of keys, of their values, and of processes.
+/// The numbers of keys, of their values, and of processes, and which reads are of lists.
 #[derive(Drop)]
 pub struct Tables {
     pub keys: Names,
     pub values: Values,
     pub processes: Names,
+    /// By operation: whether it is a read of a list.
+    pub lists: Vec<bool>,
 }
 
 /// A recording, as far as its lines were read.
@@ -94,6 +96,12 @@ fn put_act(
         SaidAct::Append(value) => Ok(Act::Append(values.number(key, value)? as u32)),
         SaidAct::Write(value) => Ok(Act::Write(values.number(key, value)? as u32)),
         SaidAct::Read(found) => Ok(Act::Read(put_read(values, elements, key, found.as_slice())?)),
+        SaidAct::ReadList(found) => Ok(Act::Read(put_read(
+            values,
+            elements,
+            key,
+            found.as_slice(),
+        )?)),
     }
 }
 
@@ -126,6 +134,7 @@ impl Draft {
                 keys: Names::new(alloc),
                 values: Values::new(alloc),
                 processes: Names::new(alloc),
+                lists: Vec::new(alloc),
             },
         }
     }
@@ -151,6 +160,8 @@ impl Draft {
         requires fits { FitsOps self.old }
         requires few { held self.old + (1 + width said.now.act) < 2 ^ 32 }
         ensures said { OnOk result (AddsOps self.old self.new (said.now ∷ [])) }
+        ensures lists { OnOk result (self.new.tables.lists.items
+            ≡ self.old.tables.lists.items ++ reads_list said.now.act ∷ []) }
         ensures grows { OnOk result (GrowsDraft self.old self.new) }
         ensures fits { OnOk result (FitsOps self.new) }
         ensures held { OnOk result (held self.new ≡ held self.old + (1 + width said.now.act)) }
@@ -159,6 +170,7 @@ impl Draft {
     {
         let key = self.tables.keys.number(&said.key)? as u32;
         let act = put_act(&mut self.tables.values, &mut self.elements, key, &said.act)?;
+        self.tables.lists.push(said.act.reads_list())?;
         self.ops.push(RecordedOp { key, act })?;
         Ok(())
     }
@@ -168,6 +180,8 @@ impl Draft {
         requires fits { FitsOps self.old }
         requires few { held self.old + weight said.now < 2 ^ 32 }
         ensures said { OnOk result (AddsOps self.old self.new said.now) }
+        ensures lists { OnOk result (self.new.tables.lists.items
+            ≡ self.old.tables.lists.items ++ are_lists said.now) }
         ensures grows { OnOk result (GrowsDraft self.old self.new) }
         ensures fits { OnOk result (FitsOps self.new) }
         ensures held { OnOk result (held self.new ≡ held self.old + weight said.now) }

@@ -5,6 +5,7 @@ mod bare;
 mod draft;
 mod line;
 mod line_content;
+mod member_names;
 mod members;
 mod name;
 mod names;

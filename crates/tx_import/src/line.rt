@@ -3,7 +3,7 @@ ghost use Rattle.std.specs.Prelude.{◌≡◌, Some, None, MatchResult};
 ghost use Rattle.serde_json.specs.View.{view, items_view};
 ghost use Rattle.serde_json.specs.Find.{as_array, as_str, as_bool};
 ghost use Rattle.tx_check.specs.MachineSteps.{number_of, all_of};
-ghost use Rattle.tx_import.specs.Said.{name_of, signed_of, scalar_of, value_alone, values_of, act_of, op_of};
+ghost use Rattle.tx_import.specs.Said.{name_of, signed_of, scalar_of, value_alone, read_of, act_of, op_of};
 
 use crate::line_content::{SaidAct, SaidOp, SaidTransaction};
 use crate::name::{Name, Scalar, Words};
@@ -101,7 +101,7 @@ fn scalars(alloc: Global, values: &[Json]) -> Result<Items<Scalar>, Unread>
     Ok(scalars)
 }
 
-// The values that a read found, where they are not a list.
+// The value that a read of a register found, where there is one.
 fn value_alone(alloc: Global, value: &Json) -> Result<Items<Scalar>, Unread>
     ensures { MatchResult result (λ found. value_alone (view value.now) ≡ Some found) (λ e. e ≡ Unread.Form
         → value_alone (view value.now) ≡ None) }
@@ -116,13 +116,14 @@ fn value_alone(alloc: Global, value: &Json) -> Result<Items<Scalar>, Unread>
     }
 }
 
-fn values(alloc: Global, value: &Json) -> Result<Items<Scalar>, Unread>
-    ensures { MatchResult result (λ found. values_of (view value.now) ≡ Some found) (λ e. e ≡ Unread.Form
-        → values_of (view value.now) ≡ None) }
+// A read, by what it found.
+fn read(alloc: Global, value: &Json) -> Result<SaidAct, Unread>
+    ensures { MatchResult result (λ act. read_of (view value.now) ≡ Some act) (λ e. e ≡ Unread.Form
+        → read_of (view value.now) ≡ None) }
 {
     match value.as_array() {
-        Some(items) => scalars(alloc, items.as_slice()),
-        None => value_alone(alloc, value),
+        Some(items) => Ok(SaidAct::ReadList(scalars(alloc, items.as_slice())?)),
+        None => Ok(SaidAct::Read(value_alone(alloc, value)?)),
     }
 }
 
@@ -136,7 +137,7 @@ fn act(alloc: Global, word: &Json, value: &Json) -> Result<SaidAct, Unread>
     } else if word == "w" {
         Ok(SaidAct::Write(scalar(alloc, value)?))
     } else if word == "r" {
-        Ok(SaidAct::Read(values(alloc, value)?))
+        read(alloc, value)
     } else {
         Err(Unread::Form)
     }

@@ -1,5 +1,6 @@
 //! What a line of a history says, by the names that it gives to keys, and by its values.
 ghost use Rattle.std.specs.Prelude.{◌≡◌};
+ghost use Rattle.tx_import.specs.Numbers.{reads_list};
 ghost use Rattle.tx_import.specs.Drafts.{width};
 
 use crate::name::{Name, Scalar};
@@ -13,8 +14,10 @@ pub enum SaidAct {
     Append(Scalar),
     /// It put this value in place of those that were there.
     Write(Scalar),
-    /// It read these values.
+    /// It read a register, and found this value, or none.
     Read(Items<Scalar>),
+    /// It read a list, and found these values.
+    ReadList(Items<Scalar>),
 }
 
 impl SaidAct {
@@ -25,6 +28,17 @@ impl SaidAct {
         match self {
             SaidAct::Append(_) | SaidAct::Write(_) => 0,
             SaidAct::Read(values) => values.as_slice().len(),
+            SaidAct::ReadList(values) => values.as_slice().len(),
+        }
+    }
+
+    /// Whether it read a list.
+    pub(crate) fn reads_list(&self) -> bool
+        ensures { result ≡ reads_list self.now }
+    {
+        match self {
+            SaidAct::Append(_) | SaidAct::Write(_) | SaidAct::Read(_) => false,
+            SaidAct::ReadList(_) => true,
         }
     }
 }

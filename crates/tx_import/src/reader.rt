@@ -5,7 +5,7 @@ ghost use Rattle.tx_text.specs.Lines.{lines_of};
 ghost use Rattle.tx_recording.specs.Recordings.{IsRecording};
 ghost use Rattle.tx_import.specs.Said.{transaction_of};
 ghost use Rattle.tx_import.specs.declared.line_content.SaidTransaction.{SaidTransaction};
-ghost use Rattle.tx_import.specs.Histories.{said_in, or_form, IsHistory, IsHistoryOf, IsFaultOf};
+ghost use Rattle.tx_import.specs.Histories.{said_in, or_form, Says, SaysNone, IsHistory, IsHistoryOf, IsFaultOf};
 ghost use Rattle.tx_import.specs.Numbers.{AreInTurn};
 ghost use Rattle.tx_import.specs.Turns.{HistoryTurns};
 ghost use Rattle.tx_import.specs.Drafts.{FitsDraft, IsDraftOf};
@@ -13,7 +13,9 @@ ghost use Rattle.tx_import.specs.Drafts.{FitsDraft, IsDraftOf};
 use crate::draft::{Draft, Tables};
 use crate::line::Unread;
 use crate::line_content::SaidTransaction;
+use crate::member_names::has_one_twice;
 use crate::members::transaction;
+use json::Scratch;
 use serde_json::Value;
 use std::alloc::Global;
 use std::io::BufRead;
@@ -51,8 +53,8 @@ fn value_said(
     }
 }
 
-// The transaction that the line of this number says, or why it says none.
-fn line_said(
+// The transaction that the line of this number says, whatever it has twice, or why it says none.
+fn text_said(
     alloc: Global,
     number: u64,
     line: &[u8],
@@ -70,6 +72,30 @@ fn line_said(
     }
 }
 
+// The transaction that the line of this number says, or why it says none.
+fn line_said(
+    alloc: Global,
+    scratch: &mut Scratch,
+    number: u64,
+    line: &[u8],
+) -> Result<Result<SaidTransaction, Cause>, Broken>
+    requires { length line.now ≤ MAX_LINE_BYTES }
+    ensures said { IfOk result (λ found. MatchResult found (Says number line.now) (SaysNone number line.now)) }
+    ensures early { IfOk result (λ found. IfOk found (λ _. number ≤ MAX_LINES)) }
+{
+    let said = match text_said(alloc, number, line)? {
+        Ok(said) => said,
+        Err(cause) => return Ok(Err(cause)),
+    };
+    let Ok(text) = str::from_utf8(line) else {
+        return Ok(Err(Cause::Json));
+    };
+    if has_one_twice(alloc, scratch, text)? {
+        return Ok(Err(Cause::Form));
+    }
+    Ok(Ok(said))
+}
+
 // What came of the next line.
 #[derive(Clone, Copy, Debug, PartialEq, Eq)]
 enum HistoryTurn {
@@ -81,6 +107,7 @@ enum HistoryTurn {
 // Reads the next line, and adds what it says.
 fn next<R: BufRead>(
     alloc: Global,
+    scratch: &mut Scratch,
     reader: &mut R,
     line: &mut Vec<u8>,
     draft: &mut Draft,
@@ -101,7 +128,7 @@ fn next<R: BufRead>(
         Found::Long => return Ok(HistoryTurn::Faulted(Cause::Long)),
         Found::Line => {}
     }
-    let said = match line_said(alloc, number, line)? {
+    let said = match line_said(alloc, scratch, number, line)? {
         Ok(said) => said,
         Err(cause) => return Ok(HistoryTurn::Faulted(cause)),
     };
@@ -157,10 +184,18 @@ pub fn read_history<R: BufRead>(
         (λ history. IsHistoryOf (lines_of input) history) (λ fault. IsFaultOf (lines_of input) fault))) }
 {
     let mut draft = Draft::new(alloc);
+    let mut scratch = Scratch::new(alloc);
     let mut line = Vec::new(alloc);
     let mut number = 0;
     'lines: loop {
-        match next(alloc, reader, &mut line, &mut draft, number + 1)? {
+        match next(
+            alloc,
+            &mut scratch,
+            reader,
+            &mut line,
+            &mut draft,
+            number + 1,
+        )? {
             HistoryTurn::End => return Ok(Ok(history_of(draft))),
             HistoryTurn::Put => number += 1,
             HistoryTurn::Faulted(cause) => {

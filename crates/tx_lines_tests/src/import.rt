@@ -31,7 +31,7 @@ fn fault(alloc: Global, text: &str) -> Option<LineFault> {
     }
 }
 
-static FAULTS: [(&str, u64, Cause); 7] = [
+static FAULTS: [(&str, u64, Cause); 8] = [
     ("{\"type\":\"ok\"", 1, Cause::Json),
     ("[]", 1, Cause::Form),
     (
@@ -51,6 +51,11 @@ static FAULTS: [(&str, u64, Cause); 7] = [
     ),
     ("{\"type\":\"ok\",\"ops\":[[\"w\",\"\",1]]}", 1, Cause::Form),
     ("{\"type\":\"ok\",\"id\":-1,\"ops\":[]}", 1, Cause::Form),
+    (
+        "{\"type\":\"ok\",\"id\":1,\"id\":2,\"ops\":[]}",
+        1,
+        Cause::Form,
+    ),
 ];
 
 #[test]

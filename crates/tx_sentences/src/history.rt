@@ -1,5 +1,6 @@
 //! Why a line of a history says no transaction.
 use crate::show::shown_value;
+use json::{Error, Scratch, Tape};
 use serde_json::Value;
 use std::alloc::{AllocError, Global};
 use tx_hints::meant;
@@ -135,13 +136,52 @@ fn no_object(alloc: Global, value: &Value) -> Result<String, AllocError> {
     format!(in alloc; "the line is no object{hint}")
 }
 
-/// Why a value says no transaction, where that can be said of the value alone.
+// The names of the members of an object, as its text has them.
+fn names_in<'a>(
+    alloc: Global,
+    scratch: &'a mut Scratch,
+    text: &'a str,
+) -> Result<Vec<&'a str>, AllocError> {
+    let mut names = Vec::new(alloc);
+    let tape = match Tape::parse(text, scratch, Vec::new(alloc)) {
+        Ok(tape) => tape,
+        Err(Error::OutOfMemory) => return Err(AllocError),
+        Err(_) => return Ok(names),
+    };
+    let Some(mut members) = tape.root().members() else {
+        return Ok(names);
+    };
+    while let Some((name, _)) = members.next() {
+        names.push(name)?;
+    }
+    Ok(names)
+}
+
+// That a member stands twice in an object, if one does.
+fn member_twice(alloc: Global, text: &str) -> Result<Option<String>, AllocError> {
+    let mut scratch = Scratch::new(alloc);
+    let mut names = names_in(alloc, &mut scratch, text)?;
+    names.sort_unstable();
+    for i in 1..names.len() {
+        if names[i - 1] == names[i] {
+            let name = shown_value(alloc, &Value::String(names[i].to_string(alloc)?))?;
+            return Ok(Some(format!(in alloc; "the transaction has {name} twice")?));
+        }
+    }
+    Ok(None)
+}
+
+/// Why the value of a text says no transaction, where that can be said of the text alone.
 pub(crate) fn wrong_transaction(
     alloc: Global,
+    text: &str,
     value: &Value,
 ) -> Result<Option<String>, AllocError> {
     if !value.is_object() {
         return Ok(Some(no_object(alloc, value)?));
+    }
+    if let Some(wrong) = member_twice(alloc, text)? {
+        return Ok(Some(wrong));
     }
     if !is_name_or_none(value, "process") {
         return Ok(Some(

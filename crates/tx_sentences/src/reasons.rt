@@ -324,7 +324,7 @@ pub fn why(
     };
     match Value::from_slice(alloc, line) {
         Ok(value) => match kind {
-            InputKind::History => wrong_transaction(alloc, &value),
+            InputKind::History => wrong_transaction(alloc, text, &value),
             _ => wrong_value(alloc, kind, fault, text, &value, state),
         },
         Err(error) if error.is_memory() => Err(AllocError),

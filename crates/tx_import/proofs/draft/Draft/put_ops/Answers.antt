@@ -1,5 +1,5 @@
 use Rattle.std.proofs.Common.{◌∙◌, ◌+◌, arith}
-use Rattle.tx_import.proofs.Extensions.{draft_then, ops_more}
+use Rattle.tx_import.proofs.Extensions.{draft_then, ops_more, lists_more}
 use Rattle.tx_import.proofs.Weights.{weight_more, weight_part}
 use Rattle.tx_import.proofs.draft.Draft.put_ops.Goals as goal
 
@@ -26,4 +26,6 @@ loop-op-preserved c =
       omega (arith, before.3, is.held, more),
       is.same ∙ before.4,
       is.processes ∙ before.5,
+      lists_more start.tables.lists.items mid.tables.lists.items new.tables.lists.items said i c.op-item.result
+          c.loop-op-test.true c.op-item.is before.6 is.lists,
     )
