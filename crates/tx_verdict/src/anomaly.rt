@@ -24,8 +24,8 @@ pub enum Anomaly {
     G2Item,
 }
 
-// Whether it is an anti-dependency.
-fn is_rw(step: &CycleStep) -> bool
+/// Whether it is an anti-dependency.
+pub(crate) fn is_rw(step: &CycleStep) -> bool
     ensures { result ≡ is_rw step.now }
 {
     match step.edge {

@@ -14,6 +14,7 @@ use crate::fit::is_fit;
 use crate::necessity::is_forced;
 use crate::question::Question;
 use crate::serial::keeps_level;
+use crate::stale_read::with_stale_read;
 use crate::steps::{beside_of, forbids, is_round, steps_of};
 use crate::verdict::{Cycle, Timestamps};
 use crate::versions::Versions;
@@ -87,7 +88,16 @@ pub fn cycle_of(
         return Ok(None);
     }
     let found = dependencies(alloc, &versions.recorded, nodes)?;
-    let steps = steps_of(alloc, recording, versions, question, found.as_slice())?;
+    let plain = steps_of(alloc, recording, versions, question, found.as_slice())?;
+    let steps = with_stale_read(
+        alloc,
+        recording,
+        owners,
+        views,
+        versions,
+        question.orders,
+        plain.as_slice(),
+    )?;
     if !is_round(steps.as_slice()) {
         return Ok(None);
     }

@@ -21,6 +21,7 @@ mod pairs;
 mod question;
 mod refutation;
 mod serial;
+mod stale_read;
 mod steps;
 mod stretch;
 mod verdict;

@@ -147,8 +147,11 @@ fn step_after(
     }
 }
 
-// Adds a step, if it is one.
-fn push_step(steps: &mut Vec<CycleStep>, step: Option<CycleStep>) -> Result<(), AllocError>
+/// Adds a step, if it is one.
+pub(crate) fn push_step(
+    steps: &mut Vec<CycleStep>,
+    step: Option<CycleStep>,
+) -> Result<(), AllocError>
     ensures kept { OnOk result ((s : CycleStep) → Contains steps.new.items s
         → Contains steps.old.items s ⊎ (step ≡ Some s)) }
 {

@@ -1,0 +1,6 @@
+-- All so far are steps.
+use Rattle.tx_verdict.specs.Steps.{AreSteps}
+use Rattle.tx_verdict.proofs.stale_read.with_stale_read.Given as goal
+
+abbrev pub invariant-loop-i : goal.invariant-loop-i
+invariant-loop-i l = AreSteps l.recording l.orders l.told.items
