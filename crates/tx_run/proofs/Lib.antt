@@ -7,5 +7,6 @@ pub mod LinesLeft
 pub mod OwnLines
 pub mod OwnSeats
 pub mod Played
+pub mod Sends
 pub mod Subsequences
 pub mod Totals

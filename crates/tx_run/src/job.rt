@@ -41,8 +41,8 @@ use tx_steps::Step;
 use tx_transfer::{
     Collector, Context, PlainReply, Source, TransferProgress, TransferState, slots_of,
 };
-use tx_types::{Cause, Fault, Key};
-use tx_workload::{RunLog, SessionLine};
+use tx_types::{Cause, Fault};
+use tx_workload::{KeyPair, RunLog, SessionLine};
 
 /// A session, the lines that are left of it, and what was answered. Contracts see its number, its
 /// log, which lines are left, whether a transfer is on its way, where it stands, and whether a
@@ -250,7 +250,7 @@ impl<J: JournalId, L: Source, F: Families + Drop, R: Wait + Drop> ScriptJob<J, L
         &mut self,
         number: u64,
         session: Session<J>,
-        keys: Option<(Key, Key)>,
+        keys: Option<KeyPair>,
     ) -> Result<Seat<J>, Session<J>>
         requires may { MayAnswer self.old }
         requires moves { MovesSome keys session.state }
@@ -279,7 +279,8 @@ impl<J: JournalId, L: Source, F: Families + Drop, R: Wait + Drop> ScriptJob<J, L
         }
     }
 
-    // What it came to.
+    // What it came to. Out of line: a step that is not the last has no room for it.
+    #[inline(never)]
     fn output(&mut self) -> JobOutput<J, L>
         requires over { (self.old.left ≡ []) × (self.old.going ≡ None) }
         requires still { is_moving self.old.stands ≡ false }

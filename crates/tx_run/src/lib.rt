@@ -18,4 +18,4 @@ pub use settings::Settings;
 pub use tx_cells::{Makes, Plain};
 pub use tx_ops::SessionStage;
 pub use tx_transfer::{PlainReply, Refusals};
-pub use tx_workload::{LineAnswer, LineReply, Replies};
+pub use tx_workload::{KeyPair, LineAnswer, LineReply, Replies};

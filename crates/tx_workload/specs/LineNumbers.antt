@@ -7,7 +7,7 @@ use Rattle.tx_workload.specs.declared.session_line.SessionLine.TheVariants.{Tran
 
 -- the number of a line
 abbrev pub number_of : {L : Type 0} {g : Ghosts L} → SessionLine L g → ℕ
-number_of (Transfer order) = order.value.number
+number_of (Transfer order) = order.number
 number_of (Line line) = line.value.number
 
 -- the numbers of the lines of each session

@@ -4,6 +4,7 @@
 #![tactic(auto)]
 
 mod counts;
+mod key_pair;
 mod log;
 mod replies;
 mod reply;
@@ -12,6 +13,7 @@ mod seeds;
 mod session_line;
 mod write;
 
+pub use key_pair::KeyPair;
 pub use log::RunLog;
 pub use replies::Replies;
 pub use reply::{LineAnswer, LineReply};

@@ -12,6 +12,7 @@ ghost use Rattle.tx_workload.specs.Steps.{SaysStep};
 ghost use Rattle.tx_workload.specs.Tells.{TellsLine};
 ghost use Rattle.tx_transfer.specs.Transfers.{MovesSome};
 
+use crate::key_pair::KeyPair;
 use crate::reply::{LineAnswer, LineReply};
 use std::marker::{Model, PhantomData};
 use std::mem::replace;
@@ -19,7 +20,7 @@ use tx_client::Session;
 use tx_core::{Outcome, SeatNo};
 use tx_journal::{JournalId, Seat, Told};
 use tx_transfer::{PlainReply, Source};
-use tx_types::{Cause, Key, Ts};
+use tx_types::{Cause, Ts};
 
 /// The answers of a session's lines, each of which tells of what the log was told. Each outcome
 /// among them was answered there by the session's seat, no two are of one transaction, and each
@@ -49,6 +50,7 @@ impl<J: JournalId, L: Source> Model for RunLog<J, L> {
 }
 
 // Adds an answer: whether there was room.
+#[inline(always)]
 fn add(replies: &mut Vec<LineReply>, reply: LineReply) -> bool
     ensures { replies.new.items ≡ (if result then replies.old.items ++ reply ∷ [] else replies.old.items) }
 {
@@ -107,7 +109,7 @@ impl<J: JournalId, L: Source> RunLog<J, L> {
     }
 
     // Keeps an outcome.
-    fn keep_outcome(&mut self, number: u64, start: Ts, outcome: &Outcome, keys: Option<(Key, Key)>)
+    fn keep_outcome(&mut self, number: u64, start: Ts, outcome: &Outcome, keys: Option<KeyPair>)
         requires answered { IsAnswered self.old.told self.old.seat start outcome.now keys }
         requires fresh { TellsNone start self.old.replies }
         requires pair { HasPair L.text number keys }
@@ -126,7 +128,7 @@ impl<J: JournalId, L: Source> RunLog<J, L> {
         number: u64,
         start: Ts,
         outcome: Outcome,
-        keys: Option<(Key, Key)>,
+        keys: Option<KeyPair>,
         seat: &mut Seat<J>,
     )
         requires tell { CanTell self.old start outcome keys seat.old }
@@ -164,7 +166,7 @@ impl<J: JournalId, L: Source> RunLog<J, L> {
         by: &Seat<J>,
         number: u64,
         mut session: Session<J>,
-        keys: Option<(Key, Key)>,
+        keys: Option<KeyPair>,
     ) -> Result<Seat<J>, Session<J>>
         requires moves { MovesSome keys session.state }
         requires pair { HasPair L.text number keys }
@@ -179,18 +181,19 @@ impl<J: JournalId, L: Source> RunLog<J, L> {
     {
         session.learn_told(by.copy(&mut self.told));
         session.show();
-        let start = session.start();
-        match session.finish() {
-            Ok((outcome, mut seat)) => {
-                if seat.number() == self.seat {
-                    self.learn_outcome(number, start, outcome, keys, &mut seat);
-                    return Ok(seat);
-                }
-                self.lost = true;
-                Ok(seat)
-            }
-            Err(session) => Err(session),
+        if session.transaction().outcome().is_none() {
+            return Err(session);
         }
+        let start = session.start();
+        let Ok((outcome, mut seat)) = session.finish() else {
+            unreachable!()
+        };
+        if seat.number() == self.seat {
+            self.learn_outcome(number, start, outcome, keys, &mut seat);
+            return Ok(seat);
+        }
+        self.lost = true;
+        Ok(seat)
     }
 
     /// What the lines were answered, with what the log was told and whether an answer was lost; the

@@ -2,12 +2,13 @@
 ghost use Rattle.std.specs.Prelude.{◌≡◌, ◌++◌, OnOk};
 ghost use Rattle.tx_workload.specs.Lines.{line_of};
 
+use crate::key_pair::KeyPair;
 use std::alloc::AllocError;
 use tx_core::Outcome;
 use tx_reply::put_reply;
 use tx_text::put_fault;
 use tx_transfer::PlainReply;
-use tx_types::{Cause, Key, Ts};
+use tx_types::{Cause, Ts};
 
 /// What a line is answered.
 #[derive(Drop)]
@@ -16,7 +17,7 @@ pub enum LineAnswer {
     Plain(Result<PlainReply, Cause>),
     /// The outcome of the transaction that started there; of a transfer, with the keys that
     /// it moves between.
-    Ended(Ts, Outcome, Option<(Key, Key)>),
+    Ended(Ts, Outcome, Option<KeyPair>),
 }
 
 /// A line, by its number, and its answer.

@@ -70,7 +70,7 @@ fn session_line<L: Source>(
     if let Step::Transfer(name, transfer) = step {
         if is_name(name) {
             if let Ok(order) = Order::new(alloc, number, &transfer) {
-                return Ok(SessionLine::Transfer(Box::new(alloc, order)?));
+                return Ok(SessionLine::Transfer(order));
             }
         }
     }

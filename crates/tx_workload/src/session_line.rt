@@ -72,10 +72,10 @@ impl<L: Source> ScriptLine<L> {
 /// A line of a session.
 #[derive(Drop)]
 pub enum SessionLine<L: Source> {
-    /// A transfer, of a session whose name is one.
-    Transfer(Box<Order<L>>),
-    /// Any other, which is read again when it is played. It lies apart too, so that a list of
-    /// transfers is small.
+    /// A transfer, of a session whose name is one. It stands in the list of lines, and not apart:
+    /// mostly all lines are transfers.
+    Transfer(Order<L>),
+    /// Any other, which is read again when it is played.
     Line(Box<ScriptLine<L>>),
 }
 

@@ -187,7 +187,8 @@ impl<J: JournalId, L: Source, F: Families + Drop, R: Wait + Drop> ScriptJob<J, L
         }
     }
 
-    // Makes the step that a line says.
+    // Makes the step that a line says. Out of line: most lines are transfers.
+    #[inline(never)]
     fn play(&mut self, script_line: &ScriptLine<L>)
         requires may { MayAnswer self.old }
         requires named { HasSession L.text script_line.now.number (session_name L.text self.old.number) }
@@ -227,7 +228,7 @@ impl<J: JournalId, L: Source, F: Families + Drop, R: Wait + Drop> ScriptJob<J, L
             → Leads J.bounds L.text (at from) self.old.log self.new.log self.new.stands }
     {
         match line {
-            SessionLine::Transfer(order) => self.on_order(Box::into_inner(order)),
+            SessionLine::Transfer(order) => self.on_order(order),
             SessionLine::Line(line) => self.play(&line),
         }
     }

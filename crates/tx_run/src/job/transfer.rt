@@ -22,6 +22,7 @@ use tx_reply::ScriptReply;
 use tx_steps::Transfer;
 use tx_transfer::{Order, PlainReply, Source, TransferProgress, TransferState, refused};
 use tx_types::Cause;
+use tx_workload::KeyPair;
 
 impl<J: JournalId, L: Source, F: Families + Drop, R: Wait + Drop> ScriptJob<J, L, F, R> {
     // A transfer is on its way.
@@ -113,7 +114,9 @@ impl<J: JournalId, L: Source, F: Families + Drop, R: Wait + Drop> ScriptJob<J, L
         ensures told { EndsTransfer J.bounds transfer TransferProgress.Over self.old.log self.new.log self.new.stands }
     {
         let (session, number, keys) = transfer.into_parts();
-        match self.conclude(number, session, Some(keys)) {
+        let pair = KeyPair::of(&keys);
+        drop(keys);
+        match self.conclude(number, session, Some(pair)) {
             Ok(seat) => self.set_state(JobState::Free(seat)),
             Err(session) => self.stop(number, session, PlainReply::new(ScriptReply::OutOfMemory)),
         }
@@ -131,6 +134,18 @@ impl<J: JournalId, L: Source, F: Families + Drop, R: Wait + Drop> ScriptJob<J, L
         drop(keys);
         self.hear(&mut session);
         self.stop(number, session, plain);
+    }
+
+    // The same, of one that was on its way. Out of line: one that ends has no room for it.
+    #[inline(never)]
+    fn give_up_boxed(&mut self, transfer: Box<TransferState<J, L>>, plain: PlainReply)
+        requires may { MayAnswer self.old }
+        requires refusal { is_refusal plain.reply ≡ true }
+        ensures goes { JobGoesOn (with_line transfer.value.number self.old) self.new }
+        ensures told { (p : TransferProgress) → IsGivenUp transfer.value p plain.reply
+            → EndsTransfer J.bounds transfer.value p self.old.log self.new.log self.new.stands }
+    {
+        self.give_up(Box::into_inner(transfer), plain);
     }
 
     // Makes the next step of a transfer, if one is on its way.
@@ -154,14 +169,12 @@ impl<J: JournalId, L: Source, F: Families + Drop, R: Wait + Drop> ScriptJob<J, L
             JobState::Transfer(transfer) => match progress {
                 TransferProgress::More => self.set_state(JobState::Transfer(transfer)),
                 TransferProgress::Over => self.end_transfer(Box::into_inner(transfer)),
-                TransferProgress::Spent => self.give_up(
-                    Box::into_inner(transfer),
-                    PlainReply::new(ScriptReply::OracleSpent),
-                ),
-                TransferProgress::OutOfMemory => self.give_up(
-                    Box::into_inner(transfer),
-                    PlainReply::new(ScriptReply::OutOfMemory),
-                ),
+                TransferProgress::Spent => {
+                    self.give_up_boxed(transfer, PlainReply::new(ScriptReply::OracleSpent));
+                }
+                TransferProgress::OutOfMemory => {
+                    self.give_up_boxed(transfer, PlainReply::new(ScriptReply::OutOfMemory));
+                }
             },
             other => self.set_state(other),
         }

@@ -2,6 +2,8 @@ use Rattle.std.proofs.Common.{◌≡◌, ℕ, None, Some, refl, sym, ap, subst, 
 use Rattle.tx_types.specs.declared.key.Key.{Key}
 use Rattle.tx_transaction.specs.Sessions.{finish_of}
 use Rattle.tx_client.specs.Calls.{Seated}
+use Rattle.tx_transfer.specs.Sources.{HasPair}
+use Rattle.tx_transfer.specs.Transfers.{Moves}
 use Rattle.tx_transfer.specs.declared.progress.TransferProgress.TheVariants.{Over}
 use Rattle.tx_workload.specs.declared.reply.LineAnswer.TheVariants.{Ended}
 use Rattle.tx_workload.specs.Logs.{HasFinished, KeepsAnswer, Logged}
@@ -11,6 +13,16 @@ use Rattle.tx_run.specs.Transfers.{HearsMore}
 use Rattle.tx_run.proofs.AnsweredLines.{to_state}
 use Rattle.tx_run.proofs.Leads.{ends_stopped}
 use Rattle.tx_run.proofs.job.ScriptJob.end_transfer.Goals as goal
+
+pub conclude-requires-clause-moves : goal.conclude-requires-clause-moves
+conclude-requires-clause-moves g c =
+    subst (λ (k : Key × Key). Moves k.0 k.1 c.into_parts-session.result.0.state) (sym c.of-pair.ensures)
+    c.into_parts-session.ensures.moves
+
+pub conclude-requires-clause-pair : goal.conclude-requires-clause-pair
+conclude-requires-clause-pair g c =
+    subst (λ (k : Key × Key). HasPair g.L.Source.text c.into_parts-session.result.1 (Some k)) (sym c.of-pair.ensures)
+    c.into_parts-session.ensures.pair
 
 pub returns-in-Ok-clause-goes : goal.returns-in-Ok-clause-goes
 returns-in-Ok-clause-goes g c =
@@ -24,7 +36,7 @@ returns-in-Ok-clause-told g c =
     let old = c.args.self.now.log in
     let m = c.args.transfer in
     let s = c.into_parts-session.result.0 in
-    let keys = c.into_parts-session.result.2 in
+    let keys = c.of-pair.result in
     let f = c.in-Ok.ensures.finished in
     let answer = Ended s.state.start f.0 (Some keys) in record {
       answer = answer;
@@ -35,7 +47,7 @@ returns-in-Ok-clause-told g c =
           (sym (ap (λ (w : Working). w.log) c.set_state.ensures)) f.2);
       ends = (
         ap (λ (t : Seated). t.state.start) c.into_parts-session.ensures.session,
-        ap (λ (k : Key × Key). Some k) c.into_parts-session.ensures.keys,
+        ap (λ (k : Key × Key). Some k) (c.of-pair.ensures ∙ c.into_parts-session.ensures.keys),
         old.told,
         subst (λ (t : Seated). HasFinished g.J.JournalId.bounds t old.told f.0 c.in-Ok.seat)
             c.into_parts-session.ensures.session f.1,

@@ -1,4 +1,4 @@
-use Rattle.std.proofs.Common.{◌≡◌, sym, ap, ◌∙◌}
+use Rattle.std.proofs.Common.{◌≡◌, refl, sym, ap, ◌∙◌}
 use Rattle.tx_transfer.specs.declared.progress.TransferProgress.TheVariants as progress
 use Rattle.tx_run.specs.Jobs.{Working}
 use Rattle.tx_run.proofs.AnsweredLines.{none_moves}
@@ -18,20 +18,21 @@ returns-in-Over-clause-ends g c m is more =
 
 pub returns-in-Spent-clause-ends : goal.returns-in-Spent-clause-ends
 returns-in-Spent-clause-ends g c m is more =
-    let new = c.give_up.new.self in
-    ended_at g.J.JournalId.bounds c.in-Transfer.transfer.value c.into_inner-in-Spent.result m c.args.progress
-    progress.Spent c.args.self.now.log c.take_state.new.self.log new.log new.stands
-    ((rw c.in-Transfer.is at c.take_state.ensures.entered) ∙ is) c.into_inner-in-Spent.ensures c.in-Spent.is
-    (ap (λ (w : Working). w.log) c.take_state.ensures.taken) (c.give_up.ensures.told progress.Spent c.new.ensures)
+    let new = c.give_up_boxed.new.self in
+    let it = c.in-Transfer.transfer.value in
+    ended_at g.J.JournalId.bounds it it m c.args.progress progress.Spent c.args.self.now.log
+    c.take_state.new.self.log new.log new.stands ((rw c.in-Transfer.is at c.take_state.ensures.entered) ∙ is) refl
+    c.in-Spent.is (ap (λ (w : Working). w.log) c.take_state.ensures.taken)
+    (c.give_up_boxed.ensures.told progress.Spent c.new.ensures)
 
 pub returns-in-OutOfMemory-clause-ends : goal.returns-in-OutOfMemory-clause-ends
 returns-in-OutOfMemory-clause-ends g c m is more =
-    let new = c.give_up-in-OutOfMemory.new.self in
-    ended_at g.J.JournalId.bounds c.in-Transfer.transfer.value c.into_inner-in-OutOfMemory.result m c.args.progress
-    progress.OutOfMemory c.args.self.now.log c.take_state.new.self.log new.log new.stands
-    ((rw c.in-Transfer.is at c.take_state.ensures.entered) ∙ is) c.into_inner-in-OutOfMemory.ensures
+    let new = c.give_up_boxed-in-OutOfMemory.new.self in
+    let it = c.in-Transfer.transfer.value in
+    ended_at g.J.JournalId.bounds it it m c.args.progress progress.OutOfMemory c.args.self.now.log
+    c.take_state.new.self.log new.log new.stands ((rw c.in-Transfer.is at c.take_state.ensures.entered) ∙ is) refl
     c.in-OutOfMemory.is (ap (λ (w : Working). w.log) c.take_state.ensures.taken)
-    (c.give_up-in-OutOfMemory.ensures.told progress.OutOfMemory c.new-in-OutOfMemory.ensures)
+    (c.give_up_boxed-in-OutOfMemory.ensures.told progress.OutOfMemory c.new-in-OutOfMemory.ensures)
 
 pub returns-in_default-clause-ends : goal.returns-in_default-clause-ends
 returns-in_default-clause-ends g c m is more =

@@ -1,5 +1,7 @@
-use Rattle.std.proofs.Common.{◌≡◌, All, Some, ap, sym, subst, ◌∙◌, ℕ}
+use Rattle.std.proofs.Common.{◌≡◌, All, false, Option, Some, None, ap, refl, sym, subst, ◌∙◌, ℕ}
 use Rattle.std.proofs.lemmas.Bool.{eqb-true}
+use Rattle.std.specs.Prelude.{is_some}
+use Rattle.tx_core.specs.declared.event.Outcome.{Outcome}
 use Rattle.tx_core.specs.Histories.{History, Begins}
 use Rattle.tx_core.specs.declared.event.Event.TheVariants.{Answered}
 use Rattle.tx_client.specs.Calls.{HasHeard, Records}
@@ -14,6 +16,22 @@ use Rattle.tx_workload.specs.Pairs.{TellsPair}
 use Rattle.tx_workload.specs.Tells.{TellsLine}
 use Rattle.tx_workload.proofs.SessionAnswers.{can_tell}
 use Rattle.tx_workload.proofs.log.RunLog.finish.Goals as goal
+
+none_of : (o : Option Outcome) → is_some o ≡ false → o ≡ None
+none_of None is = refl
+none_of (Some x) is = absurd (cc (is))
+
+pub returns-then-is_none-clause-open_yet : goal.returns-then-is_none-clause-open_yet
+returns-then-is_none-clause-open_yet g c =
+    let bounds = g.J.JournalId.bounds in
+    let old = c.args.session in
+    let new = c.learn_told.new.self in
+    let told = c.copy.ensures.copy ∙ ap (λ (l : Logged). l.told) c.self.view_is in (
+      subst (λ (s : SessionState). finish_of s ≡ None) (c.transaction.ensures ∙ c.learn_told.ensures.state)
+          (sym c.outcome.ensures ∙ none_of c.outcome.result c.if-is_none.ensures),
+      c.learn_told.ensures.state,
+      subst (λ (h : History). HasHeard bounds old.seat h new.seat) told c.learn_told.ensures.after_answer,
+    )
 
 pub learn_outcome-requires-clause-tell : goal.learn_outcome-requires-clause-tell
 learn_outcome-requires-clause-tell g c =
@@ -76,14 +94,14 @@ invariant_of-self g c =
     subst (λ (h : History). TellsBy h c.self.inside.seat xs × All (TellsPair g.L.Source.text) xs
     × All (TellsLine g.L.Source.text g.J.JournalId.bounds h) xs) (sym c.copy.ensures.same) c.self.invariant
 
-pub invariant_of-self-in-Ok : goal.invariant_of-self-in-Ok
-invariant_of-self-in-Ok g c =
+pub invariant_of-self-2 : goal.invariant_of-self-2
+invariant_of-self-2 g c =
     let xs = c.self.inside.replies.items in
     subst (λ (h : History). TellsBy h c.self.inside.seat xs × All (TellsPair g.L.Source.text) xs
     × All (TellsLine g.L.Source.text g.J.JournalId.bounds h) xs) (sym c.copy.ensures.same) c.self.invariant
 
-pub invariant_of-self-in-Err : goal.invariant_of-self-in-Err
-invariant_of-self-in-Err g c =
+pub invariant_of-self-then-eq : goal.invariant_of-self-then-eq
+invariant_of-self-then-eq g c =
     let xs = c.self.inside.replies.items in
     subst (λ (h : History). TellsBy h c.self.inside.seat xs × All (TellsPair g.L.Source.text) xs
     × All (TellsLine g.L.Source.text g.J.JournalId.bounds h) xs) (sym c.copy.ensures.same) c.self.invariant
