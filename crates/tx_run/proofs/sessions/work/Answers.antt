@@ -31,6 +31,7 @@ run_sessions-requires-send-J g c κs within =
     let b = c.type_bounds in let j = g.J.JournalId in let l = g.L.Source in
     let J : RattleType = param 0 g.row.J in let L : RattleType = param 1 g.row.L in
     let F : RattleType = param 2 g.row.F in let R : RattleType = param 4 g.row.R in
+    let lines = Vec-send _ (line L l) in let slots = Vec-send _ slot in
     let inside : IsSend (Inside.the_row J L F R j l g.F.Holds) =
     recorded_send (Inside.the_field J L F R j l g.F.Holds).row _ _ (Inside.the_type J L F R j l g.F.Holds).to_one
     (struct_send (shape (Inside.the_type J L F R j l g.F.Holds)) (
@@ -41,7 +42,7 @@ run_sessions-requires-send-J g c κs within =
           state _ _ _ (seat J j) (Box-send _ (session J j)) (Box-send _ (transfer J L j l)),
           (
             log_send J L j l,
-            (Vec-send _ (line L l), (Vec-send _ slot, (search (collector, sendable), (search sendable, (search sendable, tt))))),
+            (lines, (slots, (search (collector, sendable), (search sendable, (search sendable, tt))))),
           ),
         ),
       ),

@@ -1,12 +1,12 @@
-use Rattle.std.proofs.Common.{◌≡◌, inl, inr, ℕ, Some, false, map, refl, sym, ap, subst, ◌∙◌}
+use Rattle.std.proofs.Common.{◌≡◌, inr, ℕ, Some, map, sym, ap, subst, ◌∙◌}
 use Rattle.std.specs.Prelude.{reverse}
 use Rattle.tx_transfer.specs.TransferSteps.{Moving, Steps}
 use Rattle.tx_transfer.proofs.TransferSteps.{steps_number}
 use Rattle.tx_workload.specs.LineNumbers.{number_of}
-use Rattle.tx_run.specs.Jobs.{IsSound, Working}
-use Rattle.tx_run.specs.Played.{is_moving, moving}
+use Rattle.tx_run.specs.Jobs.{Working}
+use Rattle.tx_run.specs.Played.{moving}
 use Rattle.tx_run.specs.States.{going_of, where_of}
-use Rattle.tx_run.proofs.AnsweredLines.{advanced, sound_moves}
+use Rattle.tx_run.proofs.AnsweredLines.{advanced}
 use Rattle.tx_run.proofs.job.ScriptJob.advance_transfer.Goals as goal
 
 pub returns-in-Transfer-clause-advances : goal.returns-in-Transfer-clause-advances

@@ -1,4 +1,4 @@
-use Rattle.std.proofs.Common.{◌≡◌, ℕ, None, Some, refl, sym, ap, subst, ◌∙◌}
+use Rattle.std.proofs.Common.{◌≡◌, ℕ, None, Some, sym, ap, subst, ◌∙◌}
 use Rattle.tx_types.specs.declared.key.Key.{Key}
 use Rattle.tx_transaction.specs.Sessions.{finish_of}
 use Rattle.tx_client.specs.Calls.{Seated}
@@ -8,7 +8,7 @@ use Rattle.tx_transfer.specs.declared.progress.TransferProgress.TheVariants.{Ove
 use Rattle.tx_workload.specs.declared.reply.LineAnswer.TheVariants.{Ended}
 use Rattle.tx_workload.specs.Logs.{HasFinished, KeepsAnswer, Logged}
 use Rattle.tx_run.specs.Jobs.{JobGoesOn, Working, with_line}
-use Rattle.tx_run.specs.Played.{EndsTransfer, StopsSo}
+use Rattle.tx_run.specs.Played.{StopsSo}
 use Rattle.tx_run.specs.Transfers.{HearsMore}
 use Rattle.tx_run.proofs.AnsweredLines.{to_state}
 use Rattle.tx_run.proofs.Leads.{ends_stopped}

@@ -1,4 +1,4 @@
-use Rattle.std.proofs.Common.{◌≡◌, refl, sym, ap, ◌∙◌}
+use Rattle.std.proofs.Common.{refl, sym, ap, ◌∙◌}
 use Rattle.tx_transfer.specs.declared.progress.TransferProgress.TheVariants as progress
 use Rattle.tx_run.specs.Jobs.{Working}
 use Rattle.tx_run.proofs.AnsweredLines.{none_moves}

@@ -1,7 +1,7 @@
-use Rattle.std.proofs.Common.{◌≡◌, ℕ, ap, sym, subst, ◌∙◌}
+use Rattle.std.proofs.Common.{ℕ, ap, subst}
 use Rattle.tx_client.specs.Calls.{Seated}
 use Rattle.tx_run.specs.Jobs.{JobGoesOn, Working, with_line}
-use Rattle.tx_run.specs.Played.{EndsTransfer, StopsSo}
+use Rattle.tx_run.specs.Played.{StopsSo}
 use Rattle.tx_run.specs.Transfers.{HearsMore}
 use Rattle.tx_run.proofs.AnsweredLines.{heard_goes, may_heard}
 use Rattle.tx_run.proofs.Leads.{ends_stopped}
