@@ -22,7 +22,7 @@ none_rise : (source : Option (List ℕ)) → Rise source []
 none_rise None = tt
 none_rise (Some text) = λ i j d before within. absurd (omega (arith, within))
 
-first_rises : (source : Option (List ℕ)) (number : ℕ) (left : List ℕ) → Rise source (number ∷ left)
+pub first_rises : (source : Option (List ℕ)) (number : ℕ) (left : List ℕ) → Rise source (number ∷ left)
     → ComeLater source number left
 first_rises None number left rise = tt
 first_rises (Some text) number left rise = λ i d within. rise 0 (suc i) d (omega arith) (omega (arith, within))
@@ -40,7 +40,7 @@ module _ (source : Option (List ℕ)) (job : ℕ) (number : ℕ) (left : List �
   Entered n key o = EnteredBy source job n key o
 
   -- the first line
-  first_entered : (es : Entries) → AreEntered source job (number ∷ left) es → AllBy (EnteredBy source job number) es
+  pub first_entered : (es : Entries) → AreEntered source job (number ∷ left) es → AllBy (EnteredBy source job number) es
   first_entered es entered = all_more (λ k o. All (λ n. Entered n k o) (number ∷ left)) (EnteredBy source job number)
       (λ k o all. All-head (λ n. Entered n k o) number left all) es entered
 
@@ -49,10 +49,10 @@ module _ (source : Option (List ℕ)) (job : ℕ) (number : ℕ) (left : List �
       all_more (λ k o. All (λ n. Entered n k o) (number ∷ left)) (λ k o. All (λ n. Entered n k o) left)
       (λ k o all. All-tail (λ n. Entered n k o) number left all) es entered
 
-  first_own : AreOf source job (number ∷ left) → Named number
+  pub first_own : AreOf source job (number ∷ left) → Named number
   first_own own = All-head Named number left own.named
 
-  rest_own : AreOf source job (number ∷ left) → AreOf source job left
+  pub rest_own : AreOf source job (number ∷ left) → AreOf source job left
   rest_own own =
       record { named = All-tail Named number left own.named; rise = rest_rise source number left own.rise }
 

@@ -34,6 +34,12 @@ use Rattle.tx_workload.specs.Logs.{EndsOutOfOrder, KeepsAnswer, Logged, answer_t
 use Rattle.tx_workload.specs.Steps.{Says}
 use Rattle.tx_run.specs.Transfers.{Ends, Finishes, HearsMore, Transfers}
 
+-- A step leaves its session live: neither `finish` nor `stop` does, whatever it is told.
+abbrev pub stays : Step Text → Bool
+stays (step.Act name op.Finish) = false
+stays (step.Act name op.Stop) = false
+stays _ = true
+
 module _ (bounds : List Key) where
   -- What a live session makes of a step, but of one that ends it: what tx_ops says of its acts and
   -- of its calls, over a store, which loses nothing. A seat of its own resolves.
@@ -44,19 +50,23 @@ module _ (bounds : List Key) where
   Makes (step.Begin name) old said new = (said ≡ Err Name) × (new ≡ old)
   Makes _ old said new = (said ≡ Err Order) × (new ≡ old)
 
+  -- it makes that of a step which leaves it live
+  abbrev pub MakesLive : Step Text → Seated → Said → Seated → Type 0
+  MakesLive what old said new = (stays what ≡ true) × Makes what old said new
+
   -- an answer of the line of this number is that of the step which it says, made of some state of a
-  -- live session; what the session's seat had seen then begins what has happened
+  -- live session, which stays live; what the session's seat had seen then begins what has happened
   pub record WasMade (source : Option (List ℕ)) (h : History) (number : ℕ) (said : Said) : Type 0 where
     pub what : Step Text
     pub says : Says source number (Some what)
     pub old : Seated
     pub new : Seated
-    pub makes : Makes what old said new
+    pub makes : MakesLive what old said new
     pub knows : Begins new.seat.events h
 
--- the line of this number says that its session begins
+-- the line of this number says that a session of a name begins
 abbrev pub SaysBegin : Option (List ℕ) → ℕ → Type 0
-SaysBegin source number = (name : Text) × Says source number (Some (step.Begin name))
+SaysBegin source number = (name : Text) × (is_name name ≡ true) × Says source number (Some (step.Begin name))
 
 -- the line of this number says that its session finishes
 abbrev pub SaysFinish : Option (List ℕ) → ℕ → Type 0
@@ -97,12 +107,6 @@ abbrev pub begins : Step Text → Bool
 begins (step.Begin name) = is_name name
 begins (step.Transfer name what) = is_name name
 begins _ = false
-
--- A step leaves its session live: neither `finish` nor `stop` does, whatever it is told.
-abbrev pub stays : Step Text → Bool
-stays (step.Act name op.Finish) = false
-stays (step.Act name op.Stop) = false
-stays _ = true
 
 -- what its live session has entered
 abbrev pub buffer_at : Where → Entries
@@ -145,8 +149,9 @@ module _ (bounds : List Key) where
 
   -- What the step of a line leads to from where the session stands, and the answer of the line.
   abbrev pub Turns : Step Text → Standing → LineAnswer → Standing → Type 0
-  Turns (step.Begin name) (free k) (Plain (Ok p)) (live s) = (p.reply ≡ reply.Start s.state.start) × Begun bounds k s
-  Turns (step.Begin name) (free k) (Plain (Ok p)) (free l) = NotBegun k p.reply l
+  Turns (step.Begin name) (free k) (Plain (Ok p)) (live s) = (is_name name ≡ true)
+      × (p.reply ≡ reply.Start s.state.start) × Begun bounds k s
+  Turns (step.Begin name) (free k) (Plain (Ok p)) (free l) = (is_name name ≡ true) × NotBegun k p.reply l
   Turns (step.Act name op.Finish) (live s) (Ended start o None) (free l) = (start ≡ s.state.start)
       × (finish_of s.state ≡ Some o) × Records bounds s.seat (Answered start o) l
   Turns (step.Act name op.Finish) (live s) (Plain (Err cause)) (free l) = (cause ≡ Order)
@@ -154,7 +159,7 @@ module _ (bounds : List Key) where
   Turns (step.Act name op.Stop) (live s) (Plain (Ok p)) (free l) = (p.reply ≡ reply.Fine) × Left bounds s l
   Turns (step.Transfer name what) (free k) answer (free l) = Transfers bounds what k answer l
       ⊎ ((answer ≡ Plain (Err Name)) × (begins (step.Transfer name what) ≡ false) × (l ≡ k))
-  Turns what (live s) (Plain answer) (live t) = (stays what ≡ true) × Makes bounds what s (said_of answer) t
+  Turns what (live s) (Plain answer) (live t) = MakesLive bounds what s (said_of answer) t
   Turns what (free k) (Plain (Err cause)) (free l) = (cause ≡ Name) × (begins what ≡ false) × (l ≡ k)
   Turns what from answer to = ⊥
 

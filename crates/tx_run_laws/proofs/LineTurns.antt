@@ -1,9 +1,7 @@
 -- A line of a session is the turn of `simulate`, where nobody else acted.
-use Rattle.std.proofs.Common.{◌≡◌, ◌<◌, ℕ, List, None, Result, Ok, Err, refl, sym, subst}
-use Rattle.tx_types.specs.Names.{is_name}
+use Rattle.std.proofs.Common.{◌<◌, ℕ, List, None, Result, Ok, Err, refl, sym, subst}
 use Rattle.tx_types.specs.declared.fault.Cause.{Cause}
 use Rattle.tx_types.specs.declared.key.Key.{Key}
-use Rattle.std.specs.Prelude.{true}
 use Rattle.tx_core.specs.declared.event.Event.TheVariants.{Answered}
 use Rattle.tx_core.specs.declared.event.Outcome.{Outcome}
 use Rattle.tx_journal.specs.Known.{Known}
@@ -134,10 +132,10 @@ module _ (bounds : List Key) (name : Text) where
           λ alone two. least_turn bounds e name k what old new (said_of answer) may two (made alone),
         )
 
-    pub begun_turn : (seat : Known) (s : Seated) (p : PlainReply) → IsFree bounds e name k seat → is_name name ≡ true
+    pub begun_turn : (seat : Known) (s : Seated) (p : PlainReply) → IsFree bounds e name k seat
         → Turns bounds (step.Begin name) (free seat) (Plain (Ok p)) (live s) → IsAlone seat 0 s.seat
         → IsTurn LeastMinimum bounds (step.Begin name) e (Ok p.reply) (with_begun e name k s)
-    begun_turn seat s p free_at named (is, begun) alone =
+    begun_turn seat s p free_at (named, is, begun) alone =
         subst (λ (r : ScriptReply). IsTurn LeastMinimum bounds (step.Begin name) e (Ok r) (with_begun e name k s))
         (sym is) (begin_turn LeastMinimum bounds e name k seat s free_at named begun alone)
 

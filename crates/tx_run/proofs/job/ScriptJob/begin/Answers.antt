@@ -22,11 +22,11 @@ returns-in-Err-clause-plays g c = record {
       (ap (λ (w : Working). w.log.replies) c.set_state.ensures) c.report_refusal.ensures.answered;
   plays = record {
     what = step.Begin c.requires.begins.0;
-    says = c.requires.begins.1;
+    says = c.requires.begins.2;
     here = free c.args.seat;
     hears = inl refl;
     there = free c.args.seat;
-    turns = inl (inl (c.new.ensures, c.in-Err.ensures.spent.1, refl));
+    turns = inl (c.requires.begins.1, inl (c.new.ensures, c.in-Err.ensures.spent.1, refl));
     heard = inl refl;
   };
 }

@@ -54,6 +54,7 @@ pub begin-requires-clause-begins : goal.begin-requires-clause-begins
 begin-requires-clause-begins g c =
     let source = g.L.Source.text in (
       bytes_of c.in-Begin.name,
+      search rules,
       subst (λ (s : Step (Bor Text)). Says source c.args.number (Some (asked s))) c.in-Begin.is c.requires.says,
     )
 

@@ -55,11 +55,11 @@ returns-in-Ok-clause-plays g c k begun =
           c.report.ensures.kept;
       plays = record {
         what = step.Begin c.requires.begins.0;
-        says = c.requires.begins.1;
+        says = c.requires.begins.2;
         here = free k;
         hears = inl refl;
         there = live c.args.session;
-        turns = inl (is, begun);
+        turns = inl (c.requires.begins.1, is, begun);
         heard = inr (c.hear.ensures.state, _, c.hear.ensures.heard);
       };
     }
@@ -81,18 +81,21 @@ returns-in-Err-clause-plays g c k begun =
           stopped.kept;
       plays = record {
         what = step.Begin c.requires.begins.0;
-        says = c.requires.begins.1;
+        says = c.requires.begins.2;
         here = free k;
         hears = inl refl;
         there = free stopped.seat;
-        turns = inl (inr (
-          c.new-in-Err.ensures,
-          c.args.session,
-          now,
-          begun,
-          (c.hear.ensures.state, c.args.self.now.log.told, c.hear.ensures.heard),
-          left,
-        ));
+        turns = inl (
+          c.requires.begins.1,
+          inr (
+            c.new-in-Err.ensures,
+            c.args.session,
+            now,
+            begun,
+            (c.hear.ensures.state, c.args.self.now.log.told, c.hear.ensures.heard),
+            left,
+          ),
+        );
         heard = inl refl;
       };
     }

@@ -50,7 +50,7 @@ on_answer-requires-clause-made g c =
       says = c.requires.says;
       old = _;
       new = c.result_of-result.new.session;
-      makes = c.result_of-result.ensures.made;
+      makes = (c.requires.still, c.result_of-result.ensures.made);
       knows = knows;
     })
 

@@ -1,6 +1,5 @@
 //! Laws: what a line of a run does is what `simulate` does, where nobody else acts.
-ghost use Rattle.std.specs.Prelude.{◌≡◌, ◌<◌, true, ℕ, List, None, Result, Ok, Err};
-ghost use Rattle.tx_types.specs.Names.{is_name};
+ghost use Rattle.std.specs.Prelude.{◌<◌, ℕ, List, None, Result, Ok, Err};
 ghost use Rattle.tx_types.specs.declared.fault.Cause.{Cause};
 ghost use Rattle.tx_types.specs.declared.key.Key.{Key};
 ghost use Rattle.tx_core.specs.declared.event.Outcome.{Outcome};
@@ -46,7 +45,7 @@ pub fn lines_are_turns()
         × (IsAlone old.seat answered new.seat → IsTwoPhase what old.state
         → IsTurn LeastMinimum bounds what e (said_of answer) (with_live e k new)) }
     ensures begins { (bounds : List Key) (name : Text) (e : EngineState) (k : ℕ) (seat : Known) (s : Seated)
-        (p : PlainReply) → IsFree bounds e name k seat → is_name name ≡ true
+        (p : PlainReply) → IsFree bounds e name k seat
         → Turns bounds (step.Begin name) (free seat) (Plain (Ok p)) (live s) → IsAlone seat 0 s.seat
         → IsTurn LeastMinimum bounds (step.Begin name) e (Ok p.reply) (with_begun e name k s) }
     ensures ends { (bounds : List Key) (name : Text) (e : EngineState) (k : ℕ) (s : Seated) (seat : Known) (start : ℕ)

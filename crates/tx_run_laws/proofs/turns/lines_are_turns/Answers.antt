@@ -1,5 +1,5 @@
 use Rattle.tx_run_laws.proofs.LineTurns.{begun_turn, ended_turn, fault_turn, line_turn, stopped_turn}
-use Rattle.tx_run_laws.proofs.laws.lines_are_turns.Goals as goal
+use Rattle.tx_run_laws.proofs.turns.lines_are_turns.Goals as goal
 
 pub returns : goal.returns
 returns c = record {
