@@ -172,8 +172,8 @@ module _ (P : ℕ → Type 0) where
   all_filtered test (e ∷ es) each = all_first (test e) e (filter test es) (λ is. each 0 e refl is)
       (all_filtered test es (λ i f there is. each (suc i) f there is))
 
-pub numbered_at : (n : ℕ) (lines : List (List ℕ)) (i : ℕ) (e : ℕ × List ℕ) → slice_get (enumerate_from n lines) i ≡ Some e
-    → (e.0 ≡ n + i) × (slice_get lines i ≡ Some e.1)
+pub numbered_at : (n : ℕ) (lines : List (List ℕ)) (i : ℕ) (e : ℕ × List ℕ)
+    → slice_get (enumerate_from n lines) i ≡ Some e → (e.0 ≡ n + i) × (slice_get lines i ≡ Some e.1)
 numbered_at n [] i e is = absurd (cc (is))
 numbered_at n (line ∷ lines) zero e is =
     let same : (n, line) ≡ e = same_Some (n, line) e is in

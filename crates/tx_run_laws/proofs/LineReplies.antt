@@ -147,7 +147,8 @@ module _ (bounds : List Key) (source : Option (List ℕ)) (job number : ℕ) whe
   not_begun_tells : (name : Text) (h : History) (k : Known) (p : PlainReply) (l : Known) → NotBegun bounds k p.reply l
       → Tells h (step.Begin name) (Plain (Ok p))
   not_begun_tells name h k p l (inl (is, ticks, same)) = told_as h (step.Begin name) p reply.OracleSpent is (tt, tt)
-  not_begun_tells name h k p l (inr (is, s, t, begun, hears, left)) = told_as h (step.Begin name) p reply.OutOfMemory is (tt, tt)
+  not_begun_tells name h k p l (inr (is, s, t, begun, hears, left)) =
+      told_as h (step.Begin name) p reply.OutOfMemory is (tt, tt)
 
   turn_cases : TurnCases bounds Tellings
   turn_cases = record {
@@ -175,7 +176,8 @@ module _ (bounds : List Key) (source : Option (List ℕ)) (job number : ℕ) whe
   seed_unread h (step.Seed key value) = refl
   seed_unread h _ = tt
 
-  unread_tells : (what : Step Text) (from : Standing) (answer : LineAnswer) (to : Standing) → IsUnread bounds from answer to
+  unread_tells : (what : Step Text) (from : Standing) (answer : LineAnswer) (to : Standing)
+      → IsUnread bounds from answer to
       → Tellings what from answer to
   unread_tells what from (Plain (Ok p)) to (is, same) says own = (
     subst (λ (x : Standing). OwnNext (entries_of x)) (sym same) (own_next from own),

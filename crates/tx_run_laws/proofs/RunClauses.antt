@@ -51,7 +51,8 @@ got_map {X} {Y} f xs k y is = by (slice_get xs k) refl
   where
     by : (o : Option X) → slice_get xs k ≡ o → (x : X) × (slice_get xs k ≡ Some x) × (f x ≡ y)
     by None none =
-        let never : None ≡ Some y = sym (ap (option_map f) none) ∙ sym (slice_get-map f xs k) ∙ is in absurd (cc (never))
+        let never : None ≡ Some y = sym (ap (option_map f) none) ∙ sym (slice_get-map f xs k) ∙ is in
+        absurd (cc (never))
     by (Some x) some = (
       x,
       some,
