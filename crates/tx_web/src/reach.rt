@@ -249,7 +249,7 @@ impl Finds<'_> {
             self.web.add(
                 from,
                 start_of(other.first),
-                LinkReason::ChainOrder(number_of),
+                LinkReason::Found(number_of),
             )?;
         }
         if lacks_readers {
