@@ -246,11 +246,8 @@ impl Finds<'_> {
         })?;
         if lacks {
             let from = commit_of(one.last);
-            self.web.add(
-                from,
-                start_of(other.first),
-                LinkReason::Found(number_of),
-            )?;
+            self.web
+                .add(from, start_of(other.first), LinkReason::Found(number_of))?;
         }
         if lacks_readers {
             let to = self.web.writer_node(other.first);
