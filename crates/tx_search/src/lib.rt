@@ -7,11 +7,11 @@ mod choose;
 mod learn;
 mod lemmas;
 mod net;
+mod order_search;
 mod pairs;
 mod rounds;
-mod search;
 mod solver;
 mod trail;
 
+pub use order_search::{Sought, search};
 pub use rounds::refutation_of;
-pub use search::{Sought, search};
