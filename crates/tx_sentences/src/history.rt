@@ -151,7 +151,10 @@ fn names_in<'a>(
     let Some(mut members) = tape.root().members() else {
         return Ok(names);
     };
-    while let Some((name, _)) = members.next() {
+    for _ in 0..u64::MAX {
+        let Some((name, _)) = members.next() else {
+            break;
+        };
         names.push(name)?;
     }
     Ok(names)
