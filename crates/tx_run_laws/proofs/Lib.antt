@@ -6,10 +6,12 @@ pub mod LineSeats
 pub mod SaidSteps
 pub mod LineReplies
 pub mod SeedReplies
+pub mod SeatHistories
 pub mod TransferDeclarations
 pub mod LineOutcomes
 pub mod RunReplies
 pub mod RunOutcomes
 pub mod RunClauses
+pub mod ScanWalks
 pub mod LineActs
 pub mod LineTurns

@@ -1,5 +1,5 @@
 -- What a line of a live session is told was done, or answered to just what it asked.
-use Rattle.std.proofs.Common.{◌≡◌, inl, inr, ℕ, Bool, true, false, not, if◌then◌else◌, List, [], ◌++◌, Option, Some, None, Result, Ok, Err, refl, sym, ap, subst, ◌∙◌}
+use Rattle.std.proofs.Common.{◌≡◌, ◌&&◌, inl, inr, ℕ, Bool, true, false, not, if◌then◌else◌, List, [], ◌++◌, Option, Some, None, Result, Ok, Err, refl, sym, ap, subst, ◌∙◌}
 use Rattle.tx_types.specs.Lengths.{is_key}
 use Rattle.tx_types.specs.declared.fault.Cause.{Cause}
 use Rattle.tx_types.specs.declared.fault.Cause.TheVariants.{Order}
@@ -22,7 +22,7 @@ use Rattle.tx_transaction.specs.Sessions.{SessionState, after_read, after_respon
 use Rattle.tx_client.specs.declared.resolved.Status.{Status}
 use Rattle.tx_client.specs.Calls.{Seated}
 use Rattle.tx_client.specs.Facts.{RespondsSo, WasAnswered}
-use Rattle.tx_client.specs.Walks.{Walk, asks, grows, ends, due_walk, get_by, get_walk, heartbeat_walk}
+use Rattle.tx_client.specs.Walks.{Walk, ends, due_walk, get_by, get_walk, heartbeat_walk, scan_walk}
 use Rattle.tx_evidence.proofs.Results.{Comes, comes_then}
 use Rattle.tx_evidence.proofs.Sends.{sends_comes}
 use Rattle.tx_steps.specs.Steps.{Text}
@@ -45,8 +45,9 @@ use Rattle.tx_transfer.specs.declared.plain_reply.PlainReply.{PlainReply}
 use Rattle.tx_workload.specs.declared.reply.LineAnswer.{LineAnswer}
 use Rattle.tx_workload.specs.declared.reply.LineAnswer.TheVariants.{Plain}
 use Rattle.tx_run.specs.Played.{Makes, Standing, Turns, live}
-use Rattle.tx_run_laws.specs.Acts.{Enters, IsBuffered, IsDeclared, IsDone, IsReplyTo, IsSent}
+use Rattle.tx_run_laws.specs.Acts.{Enters, IsBuffered, IsDeclared, IsDone, IsReplyTo, IsScanned, IsSent}
 use Rattle.tx_run_laws.proofs.LineCases.{TurnCases, turn_by}
+use Rattle.tx_run_laws.proofs.ScanWalks.{Reads, scan_comes}
 
 -- ---- a line of a live session that stays live made its step
 
@@ -226,10 +227,6 @@ abbrev Answers : (History → Answer → Type 0) → History → Said → Type 0
 Answers A h (Ok (reply.Answered a)) = A h a
 Answers A h said = Unit {0}
 
-abbrev Reads : (History → Answer → Type 0) → History → SessionState × Result Answer Miss → Type 0
-Reads A h (s, Ok a) = A h a
-Reads A h (s, Err m) = Unit {0}
-
 abbrev Sent : (History → Answer → Type 0) → History → SessionState × Result (Option Answer) Miss → Type 0
 Sent A h (s, Ok (Some a)) = A h a
 Sent A h (s, Ok None) = Unit {0}
@@ -269,16 +266,6 @@ module _ (A : History → Answer → Type 0) where
   sent_comes h true s w comes =
       comes_then (Sent A) (Told A) w (λ x. ends (x.0, Ok (sent_reply x.1))) h comes
       (λ l x begins sent. sent_answers l x sent)
-
--- of a scan nothing is said
-any_comes : (w : Walk (SessionState × Said)) (h : History) → Comes (Told (λ l a. Unit {0})) h w
-any_comes (ends x) h = none x.1
-  where
-    none : (said : Said) → Answers (λ l a. Unit {0}) h said
-    none (Ok (reply.Answered a)) = tt
-    none said = tt
-any_comes (grows more short) h = (any_comes more h, any_comes short h)
-any_comes (asks b more) h = λ c l begins was. any_comes (more c) l
 
 abbrev Got : SessionState → Key → History → Answer → Type 0
 Got s key h a = IsReplyTo h s (call.Get key) a
@@ -321,7 +308,8 @@ module _ (bounds : List Key) (h : History) (s : SessionState) where
   call_comes : (what : Call Text) → Comes (Told (λ l a. IsReplyTo l s what a)) h (call_walk bounds s what)
   call_comes (call.Get key) =
       read_comes (Got s key) h (is_key key) s (get_walk s key) (got_by s key h (buffered s.buffer key) refl)
-  call_comes (call.Scan from to limit) = any_comes (call_walk bounds s (call.Scan from to limit)) h
+  call_comes (call.Scan from to limit) = read_comes (λ l a. IsScanned l s.start a) h (is_key from && is_key to) s
+      (scan_walk s bounds from to limit) (scan_comes bounds from to limit h s)
   call_comes call.Prewrite = sent_comes (λ l a. IsSent l (due_prewrite s) a) h (is_declared s) s
       (due_walk s phase.Prewrite (due_prewrite s)) (due_comes h s phase.Prewrite (due_prewrite s))
   call_comes call.Commit = sent_comes (λ l a. IsSent l (due_commit s) a) h (can_commit s) s

@@ -7,9 +7,7 @@ use Rattle.tx_types.specs.declared.lock.LockInfo.{LockInfo}
 use Rattle.tx_types.specs.declared.mutation.Change.{Change}
 use Rattle.tx_types.specs.declared.mutation.Fate.TheVariants as fate
 use Rattle.tx_types.specs.declared.mutation.Mutation.{Mutation}
-use Rattle.tx_types.specs.declared.mutation.Mutation.TheVariants as mutation
 use Rattle.tx_types.specs.declared.value.Value.{Value}
-use Rattle.tx_plan.specs.declared.answer.Answer.{Answer}
 use Rattle.tx_plan.proofs.KeyOrder.{key_same, other_key}
 use Rattle.tx_core.specs.declared.event.Declaration.{Declaration}
 use Rattle.tx_core.specs.declared.event.Event.TheVariants.{Answered, Began, Declared, Drawn}
@@ -25,19 +23,14 @@ use Rattle.tx_core.proofs.seats.Beginnings.{extends_all, extends_begins, extends
 use Rattle.tx_core.proofs.seats.Recording.{undeclared_on}
 use Rattle.tx_core.proofs.seats.Stays.{declared_on, drawer_on}
 use Rattle.tx_journal.specs.Known.{Known}
-use Rattle.tx_journal.specs.Replies.{Asked}
-use Rattle.tx_journal.specs.Senders.{Reached}
 use Rattle.tx_transaction.specs.declared.state.BufferEntry.{BufferEntry}
-use Rattle.tx_transaction.specs.declared.state.Miss.{Miss}
 use Rattle.tx_transaction.specs.declared.state.Terms.{Terms}
 use Rattle.tx_transaction.specs.Buffers.{Entries, buffered, changes_of, keys_of, put_over, touched}
-use Rattle.tx_transaction.specs.Returns.{Response}
-use Rattle.tx_transaction.specs.Sessions.{SessionState, after_read, begun, can_draw, declaration, declaration_of, with_passed}
+use Rattle.tx_transaction.specs.Sessions.{SessionState, begun, can_draw, declaration, declaration_of}
 use Rattle.tx_client.specs.declared.resolved.Status.{Status}
 use Rattle.tx_client.specs.Statuses.{lies_above}
 use Rattle.tx_client.specs.Calls.{HasHeard, RecordsDeclared, Records, Seated}
-use Rattle.tx_client.specs.Learns.{Learns, response_of}
-use Rattle.tx_client.specs.Walks.{Walk, asks, grows, ends, Sends, due_walk, get_by, get_walk}
+use Rattle.tx_client.specs.Walks.{ends, due_walk, get_walk}
 use Rattle.tx_client.proofs.WriteSets.{keeps_due, keeps_get}
 use Rattle.tx_steps.specs.Steps.{Text}
 use Rattle.tx_steps.specs.declared.transfer.Transfer.{Transfer}
@@ -50,72 +43,9 @@ use Rattle.tx_run.specs.Transfers.{HearsMore}
 use Rattle.tx_run_laws.proofs.Seats.{declared_follows, draws_follows}
 use Rattle.tx_run_laws.proofs.SeedReplies.{due_start}
 use Rattle.tx_run_laws.proofs.TransferRequests.{IsKept}
-
--- ---- its start stays
-
-read_start : (s : SessionState) (c : Response) → (after_read s c).start ≡ s.start
-read_start s (Err why) = refl
-read_start s (Ok a) = refl
-
-passed_keeps : (s : SessionState) (t : ℕ) (may : Bool)
-    → ((with_passed s t may).start ≡ s.start) × ((with_passed s t may).buffer ≡ s.buffer)
-passed_keeps s t false = (refl, refl)
-passed_keeps s t true = (refl, refl)
-
-module _ {S : Type 0} (sends : S → Asked → Reached → S → Type 0) (bounds : List Key) where
-  by_start : (k new : Known) (from to : S) (s : SessionState) (key : Key) (o : Option Mutation)
-      (r : SessionState × Result Answer Miss) → Sends sends bounds k from (get_by s key o) r to new
-      → r.0.start ≡ s.start
-  by_start k new from to s key (Some (mutation.Put v)) r (inl e) = ap (λ y. y.0.start) e.0
-  by_start k new from to s key (Some (mutation.Put v)) r (inr e) = ap (λ y. y.0.start) e.0
-  by_start k new from to s key (Some (mutation.Insert v)) r (inl e) = ap (λ y. y.0.start) e.0
-  by_start k new from to s key (Some (mutation.Insert v)) r (inr e) = ap (λ y. y.0.start) e.0
-  by_start k new from to s key (Some mutation.Delete) r e = ap (λ y. y.0.start) e.0
-  by_start k new from to s key (Some mutation.Lock) r (inl e) = ap (λ y. y.0.start) e.0
-  by_start k new from to s key (Some mutation.Lock) r (inr (reached, mid, then, sent, learns, e)) =
-      ap (λ y. y.0.start) e.0 ∙ read_start s (response_of reached)
-  by_start k new from to s key None r (inl e) = ap (λ y. y.0.start) e.0
-  by_start k new from to s key None r (inr (reached, mid, then, sent, learns, e)) =
-      ap (λ y. y.0.start) e.0 ∙ read_start s (response_of reached)
-
--- ---- its seat hears, and makes no event
-
-pub record Hears (bounds : List Key) (k l : Known) : Type 0 where
-  pub number : l.seat ≡ k.seat
-  pub extends : Extends k.seat k.events l.events
-  pub run : IsWorldRun bounds k.events → IsWorldRun bounds l.events
+use Rattle.tx_run_laws.proofs.SeatHistories.{Hears, by_start, heard_hears, passed_keeps, walk_hears}
 
 module _ (bounds : List Key) where
-  hears_same : (k l : Known) → l ≡ k → Hears bounds k l
-  hears_same k l is = subst (λ (x : Known). Hears bounds k x) (sym is)
-      (record { number = refl; extends = extends_all k.seat k.events; run = λ run. run })
-
-  hears_then : (a b c : Known) → Hears bounds a b → Hears bounds b c → Hears bounds a c
-  hears_then a b c first then = record {
-    number = then.number ∙ first.number;
-    extends = extends_more a.seat a.events b.events c.events first.extends
-        (subst (λ (i : ℕ). Extends i b.events c.events) first.number then.extends);
-    run = λ run. then.run (first.run run);
-  }
-
-  heard_hears : (k l : Known) (told : History) → HasHeard bounds k told l → Hears bounds k l
-  heard_hears k l told heard =
-      record { number = heard.number; extends = heard.seen.extends; run = λ run. heard.seen.run }
-
-  learnt_hears : (k l : Known) (r : Reached) → Learns bounds k r l → Hears bounds k l
-  learnt_hears k l (Err lost) learns = hears_same k l learns
-  learnt_hears k l (Ok g) learns =
-      record { number = learns.0; extends = learns.2.extends; run = λ run. learns.2.run }
-
-  walk_hears : {S R : Type 0} (sends : S → Asked → Reached → S → Type 0) (w : Walk R) (k l : Known) (from to : S)
-      (r : R) → Sends sends bounds k from w r to l → Hears bounds k l
-  walk_hears sends (ends s) k l from to r sent = hears_same k l sent.2
-  walk_hears sends (grows more short) k l from to r (inl sent) = walk_hears sends short k l from to r sent
-  walk_hears sends (grows more short) k l from to r (inr sent) = walk_hears sends more k l from to r sent
-  walk_hears sends (asks body more) k l from to r (reached, mid, then, did, learns, rest) =
-      hears_then k then l (learnt_hears k then reached learns)
-      (walk_hears sends (more (response_of reached)) then l mid to r rest)
-
   -- ---- what a transfer's session declared
 
   module _ (what : Transfer Text) (apart : what.from ≢ what.to) where
@@ -369,7 +299,7 @@ module _ (bounds : List Key) where
     met_so s t resolver after None now found (none, same, stays) = same_so s t same
     met_so s t resolver after (Some lock) now found (status, some, resolves, state, heard) =
         let kept = passed_keeps s.state lock.start (lies_above status s.state.start) in
-        hears_so s t (heard_hears s.seat t.seat after.events heard)
+        hears_so s t (heard_hears bounds s.seat t.seat after.events heard)
         (ap (λ (x : SessionState). x.start) state ∙ kept.0)
         (ap (λ (x : SessionState). keys_of x.buffer) state ∙ ap keys_of kept.1)
 
@@ -382,12 +312,12 @@ module _ (bounds : List Key) where
       itself = λ s is. is;
       more = λ r s t first then is. then (first is);
       got = λ s t key came sent. hears_so s t
-          (walk_hears (Replies {S = Unit {0}}) (get_walk s.state key) s.seat t.seat tt tt (t.state, came) sent)
+          (walk_hears bounds (Replies {S = Unit {0}}) (get_walk s.state key) s.seat t.seat tt tt (t.state, came) sent)
           (by_start (Replies {S = Unit {0}}) bounds s.seat t.seat tt tt s.state key (buffered s.state.buffer key)
           (t.state, came) sent)
           (keeps_get (Replies {S = Unit {0}}) bounds s.seat t.seat tt tt s.state key (t.state, came) sent).keys;
       sent = λ s t x due came sent. hears_so s t
-          (walk_hears (Replies {S = Unit {0}}) (due_walk s.state x due) s.seat t.seat tt tt (t.state, came) sent)
+          (walk_hears bounds (Replies {S = Unit {0}}) (due_walk s.state x due) s.seat t.seat tt tt (t.state, came) sent)
           (due_start (Replies {S = Unit {0}}) bounds s.seat t.seat tt tt s.state x due (t.state, came) sent)
           (keeps_due (Replies {S = Unit {0}}) bounds s.seat t.seat tt tt s.state x due (t.state, came) sent).keys;
       wrote = writes_so;
@@ -414,7 +344,7 @@ module _ (bounds : List Key) where
 
     pub started_so : (k : Known) (s t : Seated) → Begun bounds k s → HearsMore bounds s t → IsSo t
     started_so k s t begun (state, told, heard) =
-        hears_so s t (heard_hears s.seat t.seat told heard) (ap (λ (x : SessionState). x.start) state)
+        hears_so s t (heard_hears bounds s.seat t.seat told heard) (ap (λ (x : SessionState). x.start) state)
         (ap (λ (x : SessionState). keys_of x.buffer) state) (begun_so k s begun)
 
     just_between : (h : History) (t : ℕ) (o : Outcome) → DeclaresJust h t what.from what.to

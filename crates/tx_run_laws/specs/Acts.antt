@@ -1,8 +1,11 @@
 -- What stands behind what a line of a live session is told, by the state that its session had.
-use Rattle.std.specs.Prelude.{◌≡◌, ◌⊎◌, false, List, Option, Some, None}
+use Rattle.std.specs.Prelude.{◌≡◌, ◌⊎◌, ℕ, false, List, Option, Some, None}
 use Rattle.tx_types.specs.declared.key.Key.{Key}
 use Rattle.tx_types.specs.declared.mutation.Mutation.{Mutation}
 use Rattle.tx_types.specs.declared.mutation.Mutation.TheVariants as mutation
+use Rattle.tx_types.specs.declared.mutation.KeyValue.{KeyValue}
+use Rattle.tx_plan.specs.declared.body.Body.TheVariants as body
+use Rattle.tx_plan.specs.declared.body.Scan.{Scan}
 use Rattle.tx_plan.specs.declared.answer.Answer.{Answer}
 use Rattle.tx_plan.specs.declared.answer.Answer.TheVariants as answer
 use Rattle.tx_core.specs.Histories.{History}
@@ -12,6 +15,7 @@ use Rattle.tx_transaction.specs.Buffers.{Entries, buffered, inserted, locked, pu
 use Rattle.tx_transaction.specs.Sessions.{SessionState, declaration, due_abort, due_commit, due_prewrite, exceeds, heartbeat_of, read_of}
 use Rattle.tx_client.specs.Calls.{RecordsDeclared, Seated, seated}
 use Rattle.tx_client.specs.Facts.{WasAnswered}
+use Rattle.tx_evidence.specs.Tells.{AllScanned, joined}
 use Rattle.tx_steps.specs.Steps.{Text}
 use Rattle.tx_steps.specs.declared.call.Call.{Call}
 use Rattle.tx_steps.specs.declared.call.Call.TheVariants as call
@@ -52,11 +56,17 @@ abbrev pub IsSent : History → Option Due → Answer → Type 0
 IsSent h None a = ⊥
 IsSent h (Some due) a = WasAnswered h due.body a
 
+-- rows are those of scans at this timestamp, of one behind the other; any other answer was given to
+-- such a scan
+abbrev pub IsScanned : History → ℕ → Answer → Type 0
+IsScanned h at (answer.Rows rows) = (parts : List (List KeyValue)) × (rows ≡ joined parts) × AllScanned h at parts
+IsScanned h at a = (b : Scan) × (b.at ≡ at) × WasAnswered h (body.Scan b) a
+
 -- An answer to a call is its buffer's, or a region's to just the request that the call sends in
--- this state: a get at its session's start. A scan sends several, of which nothing is said here.
+-- this state: a get, and each part of a scan, at its session's start.
 abbrev pub IsReplyTo : History → SessionState → Call Text → Answer → Type 0
 IsReplyTo h s (call.Get key) a = IsBuffered (buffered s.buffer key) a ⊎ WasAnswered h (read_of s key) a
-IsReplyTo h s (call.Scan from to limit) a = Unit {0}
+IsReplyTo h s (call.Scan from to limit) a = IsScanned h s.start a
 IsReplyTo h s call.Prewrite a = IsSent h (due_prewrite s) a
 IsReplyTo h s call.Commit a = IsSent h (due_commit s) a
 IsReplyTo h s call.Abort a = IsSent h (due_abort s) a

@@ -16,7 +16,7 @@ ghost use Rattle.tx_run_laws.specs.Acts.{IsDone, IsReplyTo};
 
 /// No line of a live session is told "ok" without its act: the buffer has just the change, or is
 /// declared as it is. What a call is answered is the session's own, or a region's answer to just
-/// the request that it sends in the state that its session had.
+/// the request that it sends in the state that its session had; a scan is of its start.
 pub fn replies_are_made()
     ensures done { (bounds : List Key) (name : Text) (what : Op Text) (s t : Seated) (p : PlainReply)
         → Turns bounds (step.Act name what) (live s) (Plain (Ok p)) (live t) → p.reply ≡ reply.Fine
