@@ -18,11 +18,6 @@ fn account(alloc: Global, number: u64) -> Result<Key, Fault> {
     pack(alloc, &[Text("account"), Unsigned(number)])
 }
 
-// What an account has.
-fn held<T: Tx>(tx: &mut T, account: &Key) -> Result<Option<u64>, Stop> {
-    Ok(tx.get(account)?.and_then(|value| unpack_number(&value)))
-}
-
 /// Opens the accounts, or moves an amount from one to another: false where that has less.
 #[derive(Drop)]
 enum Order {
@@ -44,15 +39,15 @@ impl Work for Order {
             return Ok(true);
         };
         let (from, to) = (account(alloc, from)?, account(alloc, to)?);
-        let (Some(less), Some(more)) = (held(tx, &from)?, held(tx, &to)?) else {
+        let (Some(less), Some(more)) = (get_number(tx, &from)?, get_number(tx, &to)?) else {
             return Ok(false);
         };
         let (Some(less), Some(more)) = (less.checked_sub(amount), more.checked_add(amount)) else {
             return Ok(false);
         };
         if from != to {
-            tx.put(from, pack_number(alloc, less)?)?;
-            tx.put(to, pack_number(alloc, more)?)?;
+            put_number(tx, from, less)?;
+            put_number(tx, to, more)?;
         }
         Ok(true)
     }
@@ -85,10 +80,7 @@ impl<R: Wait> Program<R> for Bank {
     fn end<J: JournalId>(self, client: &mut Client<'_, J, R>, refused: Vec<u64>) -> Self::Answer {
         let table = pack(client.alloc(), &[Text("account")])?;
         let rows = client.view()?.range_prefix(table.as_bytes())?;
-        let sums = rows
-            .iter()
-            .map(|row| unpack_number(&row.value).unwrap_or(0));
-        let all = sums.fold(0, u64::saturating_add);
+        let all = sum_of(rows.as_slice());
         let poor = refused.iter().any(|n| *n > 0);
         let (accounts, alloc) = (rows.len(), client.alloc());
         Ok(format!(in alloc; "{accounts} accounts, {all} in all, some had too little: {poor}")?)

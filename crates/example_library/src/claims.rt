@@ -133,19 +133,12 @@ impl<R: Wait> Program<R> for Queue {
     fn run<J: JournalId>(&self, client: &mut Client<'_, J, R>) -> Tally {
         let mut counts = Tally(0, 0, 0);
         for _ in 0..100_000u32 {
-            let (job, at, over) = match client.update(&mut Order::Claim) {
-                Ok(
-                    Updated {
-                        value: Told::Job(job, at, over),
-                        ..
-                    },
-                ) => (job, at, over),
-                Ok(
-                    Updated {
-                        value: Told::Wait,
-                        ..
-                    },
-                ) => continue,
+            let told = client
+                .update(&mut Order::Claim)
+                .map(|claimed| claimed.value);
+            let (job, at, over) = match told {
+                Ok(Told::Job(job, at, over)) => (job, at, over),
+                Ok(Told::Wait) => continue,
                 _ => break,
             };
             // Each third job is forgotten by whoever claims it first.

@@ -19,8 +19,7 @@ impl Work for Fill {
     fn apply<T: Tx>(&mut self, tx: &mut T) -> Result<(), Failure<()>> {
         for item in 0..ITEMS {
             let key = Key::new(tx.alloc(), &[b'i', b't', b'e', b'm', b'/', item])?;
-            let ten = pack_number(tx.alloc(), 10)?;
-            tx.put(key, ten)?;
+            put_number(tx, key, 10)?;
         }
         Ok(())
     }
@@ -44,8 +43,7 @@ impl Work for Sell {
             let page = tx.page(range, 2)?;
             for row in page.rows {
                 let held = unpack_number(&row.value).unwrap_or(0);
-                let less = pack_number(tx.alloc(), held.saturating_sub(1))?;
-                tx.put(row.key, less)?;
+                put_number(tx, row.key, held.saturating_sub(1))?;
             }
             rest = page.rest;
         }
@@ -56,10 +54,7 @@ impl Work for Sell {
 // What a view shows of all items together.
 fn stock<J: JournalId, R: Wait>(mut view: View<'_, '_, J, R>) -> Result<u64, Stop> {
     let items = view.range_prefix(b"item/")?;
-    let held = items
-        .iter()
-        .map(|row| unpack_number(&row.value).unwrap_or(0));
-    Ok(held.fold(0, u64::saturating_add))
+    Ok(sum_of(items.as_slice()))
 }
 
 /// A stock that is filled, and then sold.
@@ -70,6 +65,10 @@ impl<R: Wait> Program<R> for Shop {
     type Out = ();
 
     type Answer = anyhow::Result<String>;
+
+    fn maps(&self) -> Maps {
+        Maps::Flat
+    }
 
     fn run<J: JournalId>(&self, _: &mut Client<'_, J, R>) {}
 

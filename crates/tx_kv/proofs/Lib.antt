@@ -3,5 +3,6 @@ mod Collections
 mod Draws
 mod KeyOrder
 mod ClientNumbers
+mod Sizes
 mod UpdateResults
 mod Views

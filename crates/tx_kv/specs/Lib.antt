@@ -2,7 +2,9 @@ pub mod Bounds
 pub mod Clients
 pub mod Collections
 pub mod Counters
+pub mod Maps
 pub mod NumberValues
 pub mod Programs
+pub mod Sizes
 pub mod UpdateResults
 pub mod Views

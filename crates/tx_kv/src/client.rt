@@ -3,6 +3,7 @@ ghost use Rattle.std.specs.Prelude.{◌≡◌, ◌<◌, ◌≤◌};
 ghost use Rattle.tx_kv.specs.Clients.{Updates};
 
 use crate::live::Live;
+use crate::maps::StoreCells;
 use crate::shared::Shared;
 use crate::stats::Tally;
 use crate::updated::{NotUpdated, Updated, told_of};
@@ -10,7 +11,6 @@ use std::alloc::Global;
 use std::marker::Model;
 use std::sync::Wait;
 use tx_client::Terms;
-use tx_flat::FlatCells;
 use tx_journal::JournalId;
 use tx_store::{Store, Wire};
 use tx_types::{Mode, Ts};
@@ -28,7 +28,7 @@ const AGAIN: u32 = 1_000_000;
 pub struct Client<'a, J: JournalId, R: Wait> {
     pub(crate) rt: &'a R,
     pub(crate) alloc: Global,
-    pub(crate) store: &'a Store<J, FlatCells>,
+    pub(crate) store: &'a Store<J, StoreCells>,
     pub(crate) live: &'a Live,
     pub(crate) tally: &'a Tally,
     pub(crate) number: usize,
@@ -65,7 +65,7 @@ impl<'a, J: JournalId, R: Wait> Client<'a, J, R> {
     pub(crate) fn new(
         rt: &'a R,
         alloc: Global,
-        store: &'a Store<J, FlatCells>,
+        store: &'a Store<J, StoreCells>,
         shared: Shared<'a>,
         number: usize,
         seats: Seats<J>,

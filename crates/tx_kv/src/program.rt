@@ -1,11 +1,12 @@
 //! A program over a store of its own.
 ghost use Rattle.std.specs.Prelude.{◌≡◌, ◌+◌, ◌*◌, ◌<◌, All, IfOk, IfErr, length, vec_len};
 ghost use Rattle.tx_cells.specs.Contents.{nothing_held};
-ghost use Rattle.tx_flat.specs.Flats.{flat_content};
+ghost use Rattle.tx_kv.specs.Maps.{held_in};
 ghost use Rattle.tx_kv.specs.Programs.{IsUnopened, numbers_below};
 
 use crate::client::Client;
 use crate::live::Live;
+use crate::maps::{Maps, StoreCells};
 use crate::shared::Shared;
 use crate::stats::Tally;
 use crate::store::{journal, store};
@@ -14,7 +15,6 @@ use std::alloc::Global;
 use std::marker::{Brand, Model};
 use std::sync::Wait;
 use std::thread::{Threads, map_vec};
-use tx_flat::FlatCells;
 use tx_journal::{JournalId, Opened};
 use tx_store::Store;
 use tx_types::Fault;
@@ -43,6 +43,11 @@ pub trait Program<R: Wait>: Drop + Sync {
 
     /// What all comes to.
     type Answer;
+
+    /// In which maps the store's regions keep their keys: nested ones, where it is left out.
+    fn maps(&self) -> Maps {
+        Maps::Nested
+    }
 
     /// Done first, by a client of its own.
     fn begin<J: JournalId>(&mut self, client: &mut Client<'_, J, R>) {
@@ -92,7 +97,7 @@ fn jobs<J: JournalId>(alloc: Global, mut pairs: Vec<Seats<J>>) -> Result<Vec<Job
 fn run_one<J: JournalId, R: Wait, P: Program<R>>(
     rt: &R,
     alloc: Global,
-    store: &Store<J, FlatCells>,
+    store: &Store<J, StoreCells>,
     shared: Shared<'_>,
     program: &P,
     job: Job<J>,
@@ -109,7 +114,7 @@ fn run_one<J: JournalId, R: Wait, P: Program<R>>(
 fn run_each<J: JournalId + Send + Sync, R: Threads + Wait + Sync, P: Program<R>>(
     rt: &R,
     alloc: Global,
-    store: &Store<J, FlatCells>,
+    store: &Store<J, StoreCells>,
     shared: Shared<'_>,
     program: &P,
     jobs: Vec<Job<J>>,
@@ -132,7 +137,7 @@ fn run_over<J: JournalId + Send + Sync, R: Threads + Wait + Sync, P: Program<R>>
     rt: &R,
     alloc: Global,
     opened: Opened,
-    families: Vec<FlatCells>,
+    families: Vec<StoreCells>,
     clients: usize,
     mut program: P,
 ) -> Result<P::Answer, Fault>
@@ -140,7 +145,7 @@ fn run_over<J: JournalId + Send + Sync, R: Threads + Wait + Sync, P: Program<R>>
     requires seats { opened.seats ≡ length opened.bounds + 1 + (clients * 2 + 2) }
     requires few { clients < 1024 }
     requires count { vec_len families ≡ length J.bounds + 1 }
-    requires empty { All (λ f. flat_content f ≡ (λ k. nothing_held)) families.items }
+    requires empty { All (λ f. held_in f ≡ (λ k. nothing_held)) families.items }
     ensures err { IfErr result (λ e. e ≡ Fault.OutOfMemory) }
 {
     let (store, mut pairs) = store::<J>(alloc, opened, families)?;
@@ -181,6 +186,6 @@ pub fn with_store<R: Threads + Wait + Sync, P: Program<R>>(
 ) -> Result<P::Answer, Unopened>
     ensures unopened { IfErr result (IsUnopened (length bounds.now) clients) }
 {
-    let (opened, families) = journal(alloc, bounds, clients)?;
+    let (opened, families) = journal(alloc, bounds, clients, program.maps())?;
     Ok(run_over::<Brand, R, P>(rt, alloc, opened, families, clients, program)?)
 }

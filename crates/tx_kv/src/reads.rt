@@ -8,12 +8,14 @@ ghost use Rattle.tx_reader.specs.Readers.{OnlySees};
 ghost use Rattle.tx_update.specs.Ranges.{IsRestOf, end_of_page};
 ghost use Rattle.tx_update.specs.Stops.{NamesKey};
 ghost use Rattle.tx_kv.specs.Clients.{KeepsTerms};
+ghost use Rattle.tx_kv.specs.Sizes.{HasSize};
 ghost use Rattle.tx_kv.specs.Views.{IsViewStop, SeesEach, SeesRange};
 
 use crate::client::Client;
 use crate::many::{found_all, found_at};
 use crate::pages::page_of;
 use crate::ranges::rows_of;
+use crate::size::{Size, size_of};
 use std::sync::Wait;
 use tx_journal::JournalId;
 use tx_reader::Reader;
@@ -146,5 +148,26 @@ impl<'a, J: JournalId, R: Wait> Client<'a, J, R> {
         let resolves = reader.into_seat();
         self.seats = Some(Seats { begins, resolves });
         rows
+    }
+
+    /// How much a range holds at a timestamp.
+    pub(crate) fn size_at(&mut self, at: Ts, range: &KeyRange) -> Result<Size, Stop>
+        ensures finds { IfOk result
+            (HasSize self.new.seats.resolves.events at (Some range.now.from) range.now.to) }
+        ensures err { IfErr result
+            (IsViewStop self.new.seats.resolves.events (last self.old.seats.resolves.events) at) }
+        ensures begins { self.new.seats.begins ≡ self.old.seats.begins }
+        ensures resolves { OnlySees self.old.seats.resolves self.new.seats.resolves }
+        ensures terms { KeepsTerms self.old self.new }
+    {
+        let Some(Seats { begins, resolves }) = self.seats.take() else {
+            unreachable!()
+        };
+        let mut wire = Wire::new(self.rt, self.store);
+        let mut reader = Reader::new(self.alloc, resolves, at);
+        let size = size_of(self.alloc, &mut reader, range, &mut wire);
+        let resolves = reader.into_seat();
+        self.seats = Some(Seats { begins, resolves });
+        size
     }
 }

@@ -1,5 +1,9 @@
 //! What the clients of a store have done so far.
-ghost use Rattle.tx_kv.specs.Counters.{AddsUp};
+ghost use Rattle.std.specs.Prelude.{◌≡◌};
+ghost use Rattle.tx_core.specs.Histories.{last};
+ghost use Rattle.tx_reader.specs.Readers.{OnlySees};
+ghost use Rattle.tx_kv.specs.Clients.{KeepsTerms};
+ghost use Rattle.tx_kv.specs.Counters.{AddsUp, safe_upto};
 
 use crate::client::Client;
 use crate::live::Live;
@@ -7,7 +11,7 @@ use std::sync::Wait;
 use std::sync::atomic::{AtomicU64, Ordering};
 use tx_journal::JournalId;
 use tx_types::Ts;
-use tx_update::{Stop, Watch};
+use tx_update::{Seats, Stop, Watch};
 
 /// What the clients of a store have done so far, all together, as it stands when it is asked for.
 #[derive(Clone, Copy, Debug)]
@@ -34,6 +38,9 @@ pub struct Stats {
     /// The least timestamp at which a client reads now, or that one keeps; none where there is
     /// none.
     pub oldest: Option<Ts>,
+    /// The highest safe point that a collection may take now: `oldest`, or the last timestamp that
+    /// was drawn where that is less.
+    pub safe: Ts,
 }
 
 /// The counters of a store.
@@ -52,6 +59,16 @@ pub(crate) struct Tally {
 // What a counter has.
 fn read(counter: &AtomicU64) -> u64 {
     counter.load(Ordering::SeqCst)
+}
+
+// The highest safe point that a collection may take.
+fn safe_upto(oldest: &Option<Ts>, last: Ts) -> Ts
+    ensures { result ≡ safe_upto oldest.now last }
+{
+    match oldest {
+        Some(oldest) => Ts::new(oldest.get().min(last.get())),
+        None => last,
+    }
 }
 
 impl Tally {
@@ -90,9 +107,10 @@ impl Tally {
         self.dropped.fetch_add(records, Ordering::SeqCst);
     }
 
-    // What was counted.
-    fn stats(&self, live: &Live) -> Stats
-        ensures { AddsUp result }
+    // What was counted, where this is the last timestamp that was drawn.
+    fn stats(&self, live: &Live, last: Ts) -> Stats
+        ensures adds { AddsUp result }
+        ensures safe { result.safe ≡ safe_upto result.oldest last }
     {
         let (commits, reads, refused) = (
             read(&self.commits),
@@ -106,6 +124,8 @@ impl Tally {
         );
         let retries = conflicts.saturating_add(waits).saturating_add(others);
         let ended = commits.saturating_add(reads).saturating_add(refused);
+        let oldest = live.oldest();
+        let safe = safe_upto(&oldest, last);
         Stats {
             tries: ended.saturating_add(retries),
             commits,
@@ -117,7 +137,8 @@ impl Tally {
             others,
             collections: read(&self.collections),
             dropped: read(&self.dropped),
-            oldest: live.oldest(),
+            oldest,
+            safe,
         }
     }
 }
@@ -134,14 +155,29 @@ impl Watch for Tally {
 }
 
 impl<'a, J: JournalId, R: Wait> Client<'a, J, R> {
-    /// What all clients of its store have done so far.
+    /// What all clients of its store have done so far, and up to where it may be collected.
     ///
     /// ```
     /// let stats = client.stats();
     /// ```
-    pub fn stats(&self) -> Stats
-        ensures { AddsUp result }
+    pub fn stats(&mut self) -> Stats
+        ensures adds { AddsUp result }
+        ensures safe { result.safe ≡ safe_upto result.oldest (last self.new.seats.resolves.events) }
+        ensures begins { self.new.seats.begins ≡ self.old.seats.begins }
+        ensures resolves { OnlySees self.old.seats.resolves self.new.seats.resolves }
+        ensures terms { KeepsTerms self.old self.new }
     {
-        self.tally.stats(self.live)
+        let Some(
+            Seats {
+                begins,
+                mut resolves,
+            },
+        ) = self.seats.take()
+        else {
+            unreachable!()
+        };
+        let last = resolves.last();
+        self.seats = Some(Seats { begins, resolves });
+        self.tally.stats(self.live, last)
     }
 }

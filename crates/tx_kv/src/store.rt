@@ -1,14 +1,14 @@
 //! A store is opened: its regions, their maps, and the seats of its clients.
 ghost use Rattle.std.specs.Prelude.{◌≡◌, ◌+◌, ◌-◌, ◌*◌, ◌/◌, ◌<◌, ◌⊎◌, All, IfOk, IfErr, length, vec_len};
 ghost use Rattle.tx_cells.specs.Contents.{nothing_held};
-ghost use Rattle.tx_flat.specs.Flats.{flat_content};
 ghost use Rattle.tx_kv.specs.Bounds.{are_rising};
+ghost use Rattle.tx_kv.specs.Maps.{held_in};
 ghost use Rattle.tx_kv.specs.Programs.{IsUnopened};
 
+use crate::maps::{Maps, StoreCells};
 use crate::unopened::Unopened;
 use std::alloc::Global;
-use tx_cells::{Plain, make_families};
-use tx_flat::FlatCells;
+use tx_cells::make_families;
 use tx_journal::{JournalId, Opened, Seat};
 use tx_store::Store;
 use tx_types::limits::MAX_SEATS;
@@ -16,7 +16,7 @@ use tx_types::{Fault, Key};
 use tx_update::Seats;
 
 /// A store, and the seats of its clients, by twos.
-pub(crate) type Made<J> = (Store<J, FlatCells>, Vec<Seats<J>>);
+pub(crate) type Made<J> = (Store<J, StoreCells>, Vec<Seats<J>>);
 
 // Whether each key is below the one after it.
 fn are_rising(keys: &[Key]) -> bool
@@ -48,11 +48,12 @@ pub(crate) fn journal(
     alloc: Global,
     bounds: &[&[u8]],
     clients: usize,
-) -> Result<(Opened, Vec<FlatCells>), Unopened>
+    maps: Maps,
+) -> Result<(Opened, Vec<StoreCells>), Unopened>
     ensures seats { IfOk result (λ r. r.0.seats ≡ length r.0.bounds + 1 + (clients * 2 + 2)) }
     ensures few { IfOk result (λ r. clients < 1024) }
     ensures count { IfOk result (λ r. vec_len r.1 ≡ length r.0.bounds + 1) }
-    ensures empty { IfOk result (λ r. All (λ f. flat_content f ≡ (λ k. nothing_held)) r.1.items) }
+    ensures empty { IfOk result (λ r. All (λ f. held_in f ≡ (λ k. nothing_held)) r.1.items) }
     ensures err { IfErr result (IsUnopened (length bounds.now) clients) }
 {
     let keys = keys_of(alloc, bounds)?;
@@ -65,7 +66,7 @@ pub(crate) fn journal(
     {
         return Err(Unopened::TooMany);
     }
-    let families = make_families::<FlatCells, Plain>(alloc, &Plain, keys.len() + 1)?;
+    let families = make_families::<StoreCells, Maps>(alloc, &maps, keys.len() + 1)?;
     let opened = Opened::new(alloc, keys, clients * 2 + 2)?;
     Ok((opened, families))
 }
@@ -89,15 +90,15 @@ fn pairs<J: JournalId>(alloc: Global, mut seats: Vec<Seat<J>>) -> Result<Vec<Sea
 pub(crate) fn store<J: JournalId>(
     alloc: Global,
     opened: Opened,
-    families: Vec<FlatCells>,
+    families: Vec<StoreCells>,
 ) -> Result<Made<J>, Fault>
     requires name { (opened.table ≡ J.table) × (opened.bounds ≡ J.bounds) × (opened.seats ≡ J.seats) }
     requires count { vec_len families ≡ length J.bounds + 1 }
-    requires empty { All (λ f. flat_content f ≡ (λ k. nothing_held)) families.items }
+    requires empty { All (λ f. held_in f ≡ (λ k. nothing_held)) families.items }
     ensures seats { IfOk result (λ made. vec_len made.1 ≡ (J.seats - (length J.bounds + 1)) / 2) }
     ensures err { IfErr result (λ e. e ≡ Fault.OutOfMemory) }
 {
-    let (store, seats) = Store::<J, FlatCells>::open(alloc, opened, families)?;
+    let (store, seats) = Store::<J, StoreCells>::open(alloc, opened, families)?;
     let pairs = pairs(alloc, seats)?;
     Ok((store, pairs))
 }

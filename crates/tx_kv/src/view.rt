@@ -10,9 +10,11 @@ ghost use Rattle.tx_types.specs.Lengths.{is_key};
 ghost use Rattle.tx_update.specs.declared.stops.Stop.TheVariants as stop;
 ghost use Rattle.tx_update.specs.Ranges.{IsRestOf, after_prefix, end_of_page};
 ghost use Rattle.tx_update.specs.Stops.{NamesKey};
+ghost use Rattle.tx_kv.specs.Sizes.{HasSize};
 ghost use Rattle.tx_kv.specs.Views.{IsViewStop, SeesEach, SeesLast, SeesRange};
 
 use crate::client::Client;
+use crate::size::Size;
 use std::alloc::Global;
 use std::sync::Wait;
 use tx_journal::JournalId;
@@ -202,5 +204,24 @@ impl<'v, 'a, J: JournalId, R: Wait> View<'v, 'a, J, R> {
         ensures same { (self.new.at ≡ self.old.at) × (self.new.client.ghost_name ≡ self.old.client.ghost_name) }
     {
         self.client.page_at(self.at, range, limit)
+    }
+
+    /// How much a range holds: the number of the rows that `range` has, and the bytes of their keys
+    /// and values together. It counts them page by page, of 1,024 rows at most, and keeps none. It
+    /// stops only by what `get` does.
+    ///
+    /// ```
+    /// let Size { keys, bytes } = view.size(None, None)?;
+    /// ```
+    pub fn size(&mut self, from: Option<Key>, to: Option<Key>) -> Result<Size, Stop>
+        ensures finds { IfOk result (HasSize self.new.client.now.seats.resolves.events self.old.at from to) }
+        ensures err { IfErr result (IsViewStop self.new.client.now.seats.resolves.events
+            (last self.old.client.now.seats.resolves.events) self.old.at) }
+        ensures begins { self.new.client.now.seats.begins ≡ self.old.client.now.seats.begins }
+        ensures resolves { OnlySees self.old.client.now.seats.resolves self.new.client.now.seats.resolves }
+        ensures same { (self.new.at ≡ self.old.at) × (self.new.client.ghost_name ≡ self.old.client.ghost_name) }
+    {
+        let range = KeyRange::new(self.alloc(), from, to)?;
+        self.client.size_at(self.at, &range)
     }
 }

@@ -3,6 +3,7 @@ mod collection;
 mod counters;
 mod many;
 mod ranges;
+mod sizes;
 
 use std::sync::Wait;
 use std::test::Fail;

@@ -157,12 +157,14 @@ fn spared<J: JournalId, R: Wait>(client: &mut Client<'_, J, R>) -> Option<(u8, b
     client.timestamp().ok()?;
     let collected = client.collect(Ts::new(u64::MAX)).ok()?;
     let at = pin.at();
-    let held = collected.safe == at && client.stats().oldest == Some(at);
+    let stats = client.stats();
+    let held = collected.safe == at && stats.oldest == Some(at) && stats.safe == at;
     let before = byte_at(client, at).ok()??;
     drop(pin);
-    let _ = client.collect(Ts::new(u64::MAX)).ok()?;
+    let safe = client.stats().safe;
+    let freed = client.collect(Ts::new(u64::MAX)).ok()?.safe == safe && at < safe;
     let gone = matches!(byte_at(client, at), Err(Stop::BelowSafePoint));
-    Some((before, held, gone))
+    Some((before, held && freed, gone))
 }
 
 // Whether a client that is to collect after each two updates has collected, and what it counted.
