@@ -1,12 +1,14 @@
 -- What a read finds by what it was answered, and where another comes before it.
-use Rattle.std.proofs.Common.{◌≡◌, ◌∙◌, ℕ, List, Option, Result, Ok, Err, IfOk, IfErr, refl, sym, subst}
+use Rattle.std.proofs.Common.{◌≡◌, ◌∙◌, inl, inr, ℕ, List, Option, Result, Ok, Err, IfOk, IfErr, IsTrue, refl, sym, subst}
 use Rattle.tx_types.specs.declared.key.Key.{Key}
 use Rattle.tx_types.specs.declared.fault.Fault.TheVariants as fault
 use Rattle.tx_types.specs.declared.value.Value.{Value}
 use Rattle.tx_types.specs.declared.lock.LockInfo.{LockInfo}
 use Rattle.tx_types.specs.declared.mutation.KeyValue.{KeyValue}
 use Rattle.tx_types.specs.declared.mutation.Mutation.{Mutation}
+use Rattle.tx_types.specs.Keys.{is_between}
 use Rattle.tx_plan.specs.declared.answer.Answer.{Answer}
+use Rattle.tx_plan.specs.declared.answer.Answer.TheVariants as answer
 use Rattle.tx_plan.specs.declared.answer.Answer.TheVariants.{KeyIsLocked}
 use Rattle.tx_core.specs.Histories.{History}
 use Rattle.tx_core.specs.Worlds.{IsWorldRun}
@@ -19,11 +21,11 @@ use Rattle.tx_client.specs.declared.resolved.WaitCause.{WaitCause}
 use Rattle.tx_update.specs.declared.stops.Stop.{Stop}
 use Rattle.tx_update.specs.declared.stops.Stop.TheVariants as stop
 use Rattle.tx_update.specs.Reads.{Finds, AnswersRead, AnswersReadOn, AnswersScan, IsGetAnswer, IsScanAnswer, IsReadMiss}
-use Rattle.tx_update.specs.Stops.{IsReadStop, NamesKey, stop_of_miss}
+use Rattle.tx_update.specs.Stops.{IsReadStop, IsStopOfRefusal, NamesKey, stop_of_miss}
 use Rattle.tx_update.proofs.CallSequences.{follows_more, goes_begins}
 use Rattle.tx_update.proofs.ReadReplies.{answered_on}
 use Rattle.tx_update.proofs.ReadStops.{told_stops}
-use Rattle.tx_embed.specs.Reads.{OnlyReads, FindsFirst, LooksAt, Gets, LooksFrom, Nexts}
+use Rattle.tx_embed.specs.Reads.{OnlyReads, FindsFirst, LooksAt, Gets, LooksFrom, LocksWithin, NamesWithin, Nexts}
 
 -- what is found in each run from now on is found now
 pub if_read_now : (bounds : List Key) (entered : Option Mutation) (h : History) → IsWorldRun bounds h → (start : ℕ)
@@ -117,13 +119,18 @@ module _ (loses : ℕ → Type 0) where
 
   -- ---- the first row of a range
 
+  miss_within : (from to : Key) (m : Miss) → NamesWithin from to (stop_of_miss m)
+  miss_within from to miss.Lost = tt
+  miss_within from to miss.Fault = tt
+
   pub nexts_miss : (old new : Seated) (from to : Key) (m : Miss) (s : Stop) → s ≡ stop_of_miss m
       → LooksFrom loses old from to (Err m) new → Nexts loses old from to (Err s) new
-  nexts_miss old new from to m s is (reads, answers, may, missed) = (
+  nexts_miss old new from to m s is (reads, answers, may, missed, locks) = (
     reads,
     tt,
     subst (IsReadStop loses new.seat.events old.state.start) (sym is)
         (miss_stops new.seat.events old.state.start m missed),
+    subst (NamesWithin from to) (sym is) (miss_within from to m),
   )
 
   pub nexts_row : (old new : Seated) (from to : Key) (a : Answer) (r : Result (Option KeyValue) Stop)
@@ -131,27 +138,30 @@ module _ (loses : ℕ → Type 0) where
       → IfOk r (λ found. (h : History) (start : ℕ) (from to : Key) → AnswersScan h start from to 1 a
       → FindsFirst h start from to found)
       → IfErr r (λ s. (h : History) (start : ℕ) → IsScanAnswer h start a → IsReadStop (λ _. ⊥) h start s)
+      → IfErr r (λ s. (from to : Key) → LocksWithin from to a → NamesWithin from to s)
       → Nexts loses old from to r new
-  nexts_row old new from to a (Ok found) (reads, answers, may, missed) finds stops =
-      (reads, finds new.seat.events old.state.start from to answers, tt)
-  nexts_row old new from to a (Err s) (reads, answers, may, missed) finds stops = (
+  nexts_row old new from to a (Ok found) (reads, answers, may, missed, locks) finds stops within =
+      (reads, finds new.seat.events old.state.start from to answers, tt, tt)
+  nexts_row old new from to a (Err s) (reads, answers, may, missed, locks) finds stops within = (
     reads,
     tt,
     told_stops loses new.seat.events old.state.start s (stops new.seat.events old.state.start may),
+    within from to locks,
   )
 
   pub nexts_after : (a b c : Seated) (from to : Key) (r : Result (Option KeyValue) Stop) → OnlyReads a b
       → Nexts loses b from to r c → Nexts loses a from to r c
-  nexts_after a b c from to r p (reads, finds, stops) = (
+  nexts_after a b c from to r p (reads, finds, stops, within) = (
     reads_more a b c p reads,
     subst (λ (n : ℕ). IfOk r (FindsFirst c.seat.events n from to)) p.0.start finds,
     subst (λ (n : ℕ). IfErr r (IsReadStop loses c.seat.events n)) p.0.start stops,
+    within,
   )
 
   pub nexts_waits : (old new : Seated) (from to told : Key) (info : LockInfo) (why : WaitCause) → OnlyReads old new
       → told ≡ info.key → IsScanAnswer old.seat.events old.state.start (KeyIsLocked info)
-      → Nexts loses old from to (Err (stop.Waits told why)) new
-  nexts_waits old new from to told info why reads is was = (
+      → LocksWithin from to (KeyIsLocked info) → Nexts loses old from to (Err (stop.Waits told why)) new
+  nexts_waits old new from to told info why reads is was locks = (
     reads,
     tt,
     (
@@ -160,9 +170,23 @@ module _ (loses : ℕ → Type 0) where
       answered_on old.seat.events new.seat.events (goes_begins old.seat new.seat reads.0.seat)
           old.state.start (KeyIsLocked info) was,
     ),
+    subst (λ (k : Key). IsTrue (is_between from to k)) (sym is) locks,
   )
 
   pub nexts_refused : (old new : Seated) (from to : Key) (s : Stop) → OnlyReads old new
       → s ≡ stop.Refused fault.OutOfMemory → Nexts loses old from to (Err s) new
-  nexts_refused old new from to s reads is =
-      (reads, tt, subst (IsReadStop loses new.seat.events old.state.start) (sym is) refl)
+  nexts_refused old new from to s reads is = (
+    reads,
+    tt,
+    subst (IsReadStop loses new.seat.events old.state.start) (sym is) refl,
+    subst (NamesWithin from to) (sym is) tt,
+  )
+
+-- a refusal that tells of a lock of the range stops by a key of it
+pub refusal_within : (a : Answer) (s : Stop) → IsStopOfRefusal a s → (from to : Key) → LocksWithin from to a
+    → NamesWithin from to s
+refusal_within (KeyIsLocked info) s (inl is) from to locks = subst (NamesWithin from to) (sym is) locks
+refusal_within (KeyIsLocked info) s (inr is) from to locks = subst (NamesWithin from to) (sym is) tt
+refusal_within (answer.BelowSafePoint safe) s is from to locks = subst (NamesWithin from to) (sym is) tt
+refusal_within (answer.FutureTimestamp last) s is from to locks = subst (NamesWithin from to) (sym is) tt
+refusal_within a s is from to locks = subst (NamesWithin from to) (sym is) tt

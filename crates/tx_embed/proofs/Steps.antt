@@ -1,5 +1,5 @@
 -- A session that goes on has still seen its start, and what is told of its end.
-use Rattle.std.proofs.Common.{◌≡◌, ◌⊎◌, inl, inr, ℕ, List, Option, None, Result, Ok, Err, OnOk, sym, subst, arith}
+use Rattle.std.proofs.Common.{◌≡◌, ◌⊎◌, inl, inr, ℕ, List, Option, None, Result, Ok, Err, IfErr, OnOk, sym, subst, arith}
 use Rattle.tx_types.specs.declared.key.Key.{Key}
 use Rattle.tx_types.specs.declared.mutation.Fate.TheVariants as fate
 use Rattle.tx_core.specs.declared.event.Outcome.{Outcome}
@@ -16,7 +16,7 @@ use Rattle.tx_update.specs.Reads.{HasSeenStart}
 use Rattle.tx_update.specs.Updates.{Follows, EndedWith, Wrote}
 use Rattle.tx_update.proofs.CallSequences.{goes_begins}
 use Rattle.tx_embed.specs.declared.open_transaction.NotCommitted.{NotCommitted}
-use Rattle.tx_embed.specs.Transactions.{Commits, EndedAllWritten, TellsOf}
+use Rattle.tx_embed.specs.Transactions.{Commits, EndedAllWritten, NamesEntered, TellsOf, told_why}
 
 pub seen_more : (bounds : List Key) (old new : Seated) → Follows old new → IsWorldRun bounds new.seat.events
     → HasSeenStart old → HasSeenStart new
@@ -54,16 +54,22 @@ module _ (bounds : List Key) (terms : Terms) (old session : Seated) (new : Known
         ends.decided) none)
   ]
 
+  names_why : (done : Result (Unit {0}) Stop) → IfErr done (NamesEntered old.state.buffer)
+      → NamesEntered old.state.buffer (told_why done)
+  names_why (Ok x) names = tt
+  names_why (Err s) names = names
+
   pub commits_so : (o : Outcome) (done : Result (Unit {0}) Stop) (r : Result (Option ℕ) NotCommitted)
-      → Ended o → OnOk done Written → TellsOf o done r → Commits bounds terms old r new
-  commits_so (outcome.Committed c) done r ended wrote told =
+      → Ended o → OnOk done Written → IfErr done (NamesEntered old.state.buffer) → TellsOf o done r
+      → Commits bounds terms old r new
+  commits_so (outcome.Committed c) done r ended wrote names told =
       subst (λ x. Commits bounds terms old x new) (sym told)
       (all_written (outcome.Committed c) ended (committed_written c ended))
-  commits_so (outcome.Unknown why) done r ended wrote told =
+  commits_so (outcome.Unknown why) done r ended wrote names told =
       subst (λ x. Commits bounds terms old x new) (sym told) (inl (outcome.Unknown why, ended.0, tt))
-  commits_so outcome.ReadOnly (Ok x) r ended wrote told =
+  commits_so outcome.ReadOnly (Ok x) r ended wrote names told =
       subst (λ x. Commits bounds terms old x new) (sym told) (all_written outcome.ReadOnly ended wrote)
-  commits_so outcome.ReadOnly (Err s) r ended wrote (stop, told) =
-      subst (λ x. Commits bounds terms old x new) (sym told) (outcome.ReadOnly, ended.0, tt)
-  commits_so outcome.Aborted done r ended wrote (stop, told) =
-      subst (λ x. Commits bounds terms old x new) (sym told) (outcome.Aborted, ended.0, tt)
+  commits_so outcome.ReadOnly (Err s) r ended wrote names told =
+      subst (λ x. Commits bounds terms old x new) (sym told) (outcome.ReadOnly, ended.0, tt, names)
+  commits_so outcome.Aborted done r ended wrote names told =
+      subst (λ x. Commits bounds terms old x new) (sym told) (outcome.Aborted, ended.0, tt, names_why done names)

@@ -21,6 +21,7 @@ use Rattle.tx_embed.specs.declared.client.Slot.TheVariants.{Idle, Open}
 use Rattle.tx_embed.specs.declared.open_transaction.NotCommitted.TheVariants as uncommitted
 use Rattle.tx_embed.specs.declared.request.ClientAct.{ClientAct}
 use Rattle.tx_embed.specs.declared.request.ClientAct.TheVariants as act
+use Rattle.tx_embed.specs.Reads.{NamesWithin}
 use Rattle.tx_embed.specs.Transactions.{Enters, Commits}
 
 -- what the slot of a client has
@@ -49,7 +50,7 @@ FindsSo key s _ t = ⊥
 abbrev pub FirstSo : Key → Key → Seated → Said → Seated → Type 0
 FirstSo from to s (said.Row row) t = FindsRows t.seat.events s.state.start from to 1 (row ∷ [])
 FirstSo from to s said.Absent t = FindsRows t.seat.events s.state.start from to 1 []
-FirstSo from to s (said.Stopped why) t = IsReadStop (λ _. ⊥) t.seat.events s.state.start why
+FirstSo from to s (said.Stopped why) t = IsReadStop (λ _. ⊥) t.seat.events s.state.start why × NamesWithin from to why
 FirstSo from to s _ t = ⊥
 
 -- a read: the transaction goes on, and what it entered is the same

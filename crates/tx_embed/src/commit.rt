@@ -5,6 +5,7 @@ ghost use Rattle.tx_transaction.specs.Sessions.{is_declared};
 ghost use Rattle.tx_journal.specs.Senders.{IsSender};
 ghost use Rattle.tx_update.specs.Stops.{IsOwnRefusal};
 ghost use Rattle.tx_update.specs.Updates.{HasOutcome, SeatGoesOn, Follows, MayHaveDeclared, Wrote};
+ghost use Rattle.tx_embed.specs.Transactions.{NamesEntered};
 
 use crate::session::{Begun, Running};
 use std::alloc::Global;
@@ -30,6 +31,7 @@ fn carried<J: JournalId, S: Sender<Request<J>, Reply<J>>, B: Begun>(
     ensures resolver { SeatGoesOn B.resolver result.1 }
     ensures ended { OnOk result.2 (HasOutcome result.0) }
     ensures stopped { IfErr result.2 (λ stop. IsOwnRefusal stop ⊎ HasOutcome result.0) }
+    ensures names { IfErr result.2 (NamesEntered B.session.state.buffer) }
 {
     let mut running = Running::<'_, J, S, B>::new(alloc, session, resolver, sender);
     let done = running.carry_or_take_back();
@@ -49,6 +51,7 @@ fn carry<J: JournalId, S: Sender<Request<J>, Reply<J>>>(
     ensures resolver { SeatGoesOn resolver result.1 }
     ensures ended { OnOk result.2 (HasOutcome result.0) }
     ensures stopped { IfErr result.2 (λ stop. IsOwnRefusal stop ⊎ HasOutcome result.0) }
+    ensures names { IfErr result.2 (NamesEntered session.state.buffer) }
 {
     carried::<J, S, Brand>(alloc, session, resolver, sender)
 }
@@ -71,6 +74,7 @@ pub(crate) fn write<J: JournalId, S: Sender<Request<J>, Reply<J>>>(
         ⊎ (declared result.0.seat.events session.state.start ≡ None) }
     ensures ended { OnOk result.2 (HasOutcome result.0) }
     ensures stopped { IfErr result.2 (λ stop. IsOwnRefusal stop ⊎ HasOutcome result.0) }
+    ensures names { IfErr result.2 (NamesEntered session.state.buffer) }
 {
     if let Err(fault) = session.declare(*terms) {
         // For proofs: what its seat has seen declared.

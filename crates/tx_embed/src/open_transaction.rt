@@ -12,7 +12,7 @@ ghost use Rattle.tx_update.specs.declared.stops.Stop.TheVariants as stop;
 ghost use Rattle.tx_update.specs.Reads.{LosesRead};
 ghost use Rattle.tx_update.specs.Stops.{IsEntryStop};
 ghost use Rattle.tx_update.specs.Updates.{SeatGoesOn, MayHaveDeclared};
-ghost use Rattle.tx_embed.specs.Transactions.{Enters, Commits, TellsOf, WroteBy};
+ghost use Rattle.tx_embed.specs.Transactions.{Enters, Commits, NamesEntered, TellsOf, WroteBy, told_why};
 ghost use Rattle.tx_embed.specs.Reads.{Gets, Nexts};
 
 use crate::commit::write;
@@ -57,7 +57,9 @@ pub enum NotCommitted {
 pub type Ending = Result<Option<Ts>, NotCommitted>;
 
 // Why a transaction without effect was stopped.
-fn stopped(done: Result<(), Stop>) -> Stop {
+fn stopped(done: Result<(), Stop>) -> Stop
+    ensures { result ≡ told_why done }
+{
     match done {
         Err(stop) => stop,
         Ok(()) => Stop::RolledBack,
@@ -80,6 +82,7 @@ fn told_of(outcome: Outcome, done: Result<(), Stop>) -> Ending
 fn ended<J: JournalId>(session: Session<J>, done: Result<(), Stop>) -> (Ending, Seat<J>)
     ensures { (terms : Given) (old : Seated) → MayHaveDeclared old session
         → OnOk done (WroteBy J.bounds terms old session)
+        → IfErr done (NamesEntered old.state.buffer)
         → (WroteBy J.bounds terms old session ⊎ (declared session.seat.events old.state.start ≡ None))
         → Commits J.bounds terms old result.0 result.1 }
 {

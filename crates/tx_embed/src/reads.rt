@@ -8,7 +8,7 @@ ghost use Rattle.tx_journal.specs.Senders.{IsSender};
 ghost use Rattle.tx_update.specs.Reads.{Finds, AnswersRead, AnswersScan, IsGetAnswer, IsScanAnswer, LosesRead, HasSeenStart};
 ghost use Rattle.tx_update.specs.Stops.{IsReadStop, NamesKey};
 ghost use Rattle.tx_update.specs.Updates.{SeatGoesOn};
-ghost use Rattle.tx_embed.specs.Reads.{LooksAt, Gets, LooksFrom, Nexts, FindsFirst};
+ghost use Rattle.tx_embed.specs.Reads.{LooksAt, Gets, LooksFrom, Nexts, FindsFirst, LocksWithin, NamesWithin};
 
 use crate::locks::clear;
 use std::alloc::Global;
@@ -134,6 +134,8 @@ fn row_in(answer: Answer) -> Result<Option<KeyValue>, Stop>
         → AnswersScan h start from to 1 answer → FindsFirst h start from to found) }
     ensures err { IfErr result (λ s. (h : History) (start : ℕ) → IsScanAnswer h start answer
         → IsReadStop (λ _. ⊥) h start s) }
+    ensures within { IfErr result
+        (λ s. (from to : Bytes) → LocksWithin from to answer → NamesWithin from to s) }
 {
     match answer {
         Answer::Rows(rows) => Ok(rows.into_vec().pop()),
@@ -170,6 +172,7 @@ fn first_past<J: JournalId, S: Sender<Request<J>, Reply<J>>>(
     requires way { IsSender J.bounds S.fits S.sends S.keys_between }
     requires drawn { HasSeenStart session.old }
     requires met { IsScanAnswer session.old.seat.events session.old.state.start (KeyIsLocked lock.now) }
+    requires within { LocksWithin from.now to.now (KeyIsLocked lock.now) }
     ensures nexts { Nexts (LosesRead S.sends) session.old from.now to.now result session.new }
     ensures resolver { SeatGoesOn resolver.old resolver.new }
 {

@@ -5,6 +5,7 @@ ghost use Rattle.tx_transaction.specs.Sessions.{is_declared, can_commit, can_abo
 ghost use Rattle.tx_journal.specs.Senders.{IsSender};
 ghost use Rattle.tx_update.specs.declared.stops.Stop.TheVariants as stop;
 ghost use Rattle.tx_update.specs.Updates.{HasOutcome, Follows, SeatGoesOn};
+ghost use Rattle.tx_embed.specs.Transactions.{KeepsKeys};
 
 use crate::locks::clear;
 use std::alloc::Global;
@@ -52,18 +53,21 @@ impl<'a, J: JournalId, S: Sender<Request<J>, Reply<J>>, B: Begun> Model for Runn
     ghost use Rattle.tx_client.specs.Calls.{Seated};
     ghost use Rattle.tx_journal.specs.Senders.{IsSender};
     ghost use Rattle.tx_update.specs.Updates.{Follows, SeatGoesOn};
+    ghost use Rattle.tx_embed.specs.Transactions.{KeepsKeys};
 
     ghost Value = { Seated };
 
     ghost view = { λ t. t.session };
 
     ghost invariant = { λ t. IsSender J.bounds S.fits S.sends S.keys_between
-        × Follows B.session t.session × SeatGoesOn B.resolver t.resolver };
+        × Follows B.session t.session × SeatGoesOn B.resolver t.resolver
+        × KeepsKeys B.session.state.buffer t.session.state.buffer };
 }
 
 // Draws the commit timestamp, where it may be drawn.
 fn draw_commit<J: JournalId>(session: &mut Session<J>) -> Result<(), Fault>
-    ensures { Follows session.old session.new }
+    ensures session { Follows session.old session.new }
+    ensures buffer { session.new.state.buffer ≡ session.old.state.buffer }
 {
     if !session.can_draw() {
         return Ok(());
@@ -115,6 +119,13 @@ impl<'a, J: JournalId, S: Sender<Request<J>, Reply<J>>, B: Begun> Running<'a, J,
         ensures { result.now ≡ self.now }
     {
         &self.session
+    }
+
+    /// For proofs: its keys are those that were entered. It does nothing when it runs.
+    pub(crate) fn know_keys(&self)
+        ensures { KeepsKeys B.session.state.buffer self.now.state.buffer }
+    {
+        let _ = &self.alloc;
     }
 
     /// Resolves the lock that last stood in its way, at the last timestamp that was drawn, and

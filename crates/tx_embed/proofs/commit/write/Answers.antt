@@ -1,10 +1,12 @@
-use Rattle.std.proofs.Common.{◌≡◌, inl, inr, None, rules, ap, subst}
+use Rattle.std.proofs.Common.{◌≡◌, inl, inr, None, IfErr, rules, ap, subst}
 use Rattle.tx_core.specs.Histories.{declared}
 use Rattle.tx_client.specs.Calls.{Seated}
+use Rattle.tx_transaction.specs.Buffers.{Entries}
 use Rattle.tx_transaction.specs.Sessions.{SessionState, declaration}
 use Rattle.tx_update.specs.Updates.{Wrote}
 use Rattle.tx_update.proofs.CallSequences.{goes_itself, follows_same, declares_goes}
 use Rattle.tx_update.proofs.CommitOrder.{writes_nothing, writes_empty, writes_placed, some_entered, no_primary_ends, still_open, open_stands, wrote_there, wrote_on, well_or_not}
+use Rattle.tx_embed.specs.Transactions.{NamesEntered}
 use Rattle.tx_embed.proofs.commit.write.Goals as goal
 
 pub returns-in-Err-clause-session : goal.returns-in-Err-clause-session
@@ -78,3 +80,9 @@ returns-clause-at_most g c =
 pub returns-then-not-has_primary-clause-ended : goal.returns-then-not-has_primary-clause-ended
 returns-then-not-has_primary-clause-ended g c =
     no_primary_ends c.declare.new.self (search (rules, c.has_primary.ensures, c.if-not-has_primary.true))
+
+-- the keys that were declared are those that were entered
+pub returns-clause-names : goal.returns-clause-names
+returns-clause-names g c =
+    subst (λ (es : Entries). IfErr c.carry-session.result.2 (NamesEntered es))
+    (ap (λ (z : SessionState). z.buffer) c.in_default.ensures.ok.1) c.carry-session.ensures.names

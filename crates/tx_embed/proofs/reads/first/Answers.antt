@@ -22,6 +22,6 @@ pub returns-in_default : goal.returns-in_default
 returns-in_default g c = record {
   nexts = nexts_row (LosesRead g.S.Sender.sends) c.args.session.now c.look_from.new.session c.args.from.now
       c.args.to.now _ c.row_in.result
-      c.in_ok-answer.ensures c.row_in.ensures.finds c.row_in.ensures.err;
+      c.in_ok-answer.ensures c.row_in.ensures.finds c.row_in.ensures.err c.row_in.ensures.within;
   resolver = goes_itself c.args.resolver.now;
 }

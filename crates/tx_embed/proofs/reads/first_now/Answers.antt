@@ -6,4 +6,4 @@ pub returns : goal.returns
 returns g c =
     nexts_row (LosesRead g.S.Sender.sends) c.args.session.now c.look_from.new.session c.args.from.now
     c.args.to.now _ c.row_in.result
-    c.in_ok-answer.ensures c.row_in.ensures.finds c.row_in.ensures.err
+    c.in_ok-answer.ensures c.row_in.ensures.finds c.row_in.ensures.err c.row_in.ensures.within

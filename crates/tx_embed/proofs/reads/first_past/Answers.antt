@@ -10,7 +10,7 @@ returns-in-Waiting-clause-nexts g c =
     let is : told ≡ c.args.lock.now.key = search rules in
     nexts_waits (LosesRead g.S.Sender.sends) c.args.session.now c.clear.new.session c.args.from.now
     c.args.to.now told c.args.lock.now
-    c.in-Waiting.why (c.clear.ensures.session, c.clear.ensures.buffer) is c.requires.met
+    c.in-Waiting.why (c.clear.ensures.session, c.clear.ensures.buffer) is c.requires.met c.requires.within
 
 pub first_now-requires : goal.first_now-requires
 first_now-requires g c = record {

@@ -3,6 +3,7 @@ use Rattle.tx_types.specs.Keys.{AreRising}
 use Rattle.tx_update.proofs.CallSequences.{follows_scan, goes_itself}
 use Rattle.tx_update.proofs.ReadReplies.{scan_answered}
 use Rattle.tx_update.proofs.ReadAnswers.{if_scan_finds}
+use Rattle.tx_embed.proofs.ScanLocks.{scan_within}
 use Rattle.tx_embed.proofs.reads.look_from.Goals as goal
 
 pub returns : goal.returns
@@ -23,4 +24,6 @@ returns g c =
           c.scan-answer.result c.scan-answer.ensures,
       told.0,
       told.1,
+      scan_within g.J.JournalId.bounds g.S.Sender.fits g.S.Sender.sends g.S.Sender.keys_between c.requires.way old new
+          _ _ from to 1 c.scan-answer.result c.scan-answer.ensures,
     )

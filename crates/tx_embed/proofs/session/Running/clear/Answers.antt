@@ -1,4 +1,5 @@
 use Rattle.tx_update.proofs.CallSequences.{follows_more, goes_more}
+use Rattle.tx_embed.proofs.EnteredKeys.{keeps_more, keeps_same}
 use Rattle.tx_embed.proofs.session.Running.clear.Goals as goal
 
 pub invariant_of-self : goal.invariant_of-self
@@ -8,4 +9,7 @@ invariant_of-self g c = (
       c.clear.ensures.session,
   goes_more g.B.Begun.resolver c.self.inside.resolver c.clear.new.resolver c.self.invariant.2
       c.clear.ensures.resolver,
+  keeps_more g.B.Begun.session.state.buffer c.self.inside.session.state.buffer c.clear.new.session.state.buffer
+      c.self.invariant.3
+      (keeps_same c.self.inside.session.state.buffer c.clear.new.session.state.buffer c.clear.ensures.buffer),
 )

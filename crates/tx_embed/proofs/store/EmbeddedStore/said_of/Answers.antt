@@ -1,12 +1,19 @@
-use Rattle.std.proofs.Common.{◌≡◌, ◌<◌, true, false, length, Some, rules, refl, sym, subst}
+use Rattle.std.proofs.Common.{◌≡◌, ◌<◌, inl, true, false, length, Option, Some, rules, refl, sym, subst}
 use Rattle.std.specs.Prelude.{slice_get, slice_set}
 use Rattle.tx_journal.specs.Known.{Known}
 use Rattle.tx_update.specs.Updates.{SeatGoesOn}
 use Rattle.tx_embed.specs.declared.answer.Said.TheVariants.{Misused}
 use Rattle.tx_embed.specs.Requests.{Parts}
-use Rattle.tx_embed.specs.Calls.{StoreState, Called, saying, seat_in}
+use Rattle.tx_embed.specs.Calls.{StoreState, Called, CalledBy, saying, seat_in}
 use Rattle.tx_embed.proofs.ClientActs.{there_at, none_at, called_acts, called_nobody}
 use Rattle.tx_embed.proofs.store.EmbeddedStore.said_of.Goals as goal
+
+-- nothing is asked
+pub returns-in-Err : goal.returns-in-Err
+returns-in-Err g c =
+    let now = c.args.self.now in
+    subst (λ (o : Option Parts). CalledBy g.J.JournalId.bounds o now (saying c.in-Err.said now)) c.in-Some.ensures
+    (inl (c.in-Err.ensures.err, (refl, refl)))
 
 -- there is no such client
 pub returns-then-not-has_client : goal.returns-then-not-has_client
