@@ -39,10 +39,9 @@ impl Work for Order {
             return Ok(true);
         };
         let (from, to) = (account(alloc, from)?, account(alloc, to)?);
-        let (Some(less), Some(more)) = (get_number(tx, &from)?, get_number(tx, &to)?) else {
-            return Ok(false);
-        };
-        let (Some(less), Some(more)) = (less.checked_sub(amount), more.checked_add(amount)) else {
+        let less = get_number(tx, &from)?.and_then(|held| held.checked_sub(amount));
+        let more = get_number(tx, &to)?.and_then(|held| held.checked_add(amount));
+        let (Some(less), Some(more)) = (less, more) else {
             return Ok(false);
         };
         if from != to {
@@ -58,8 +57,8 @@ impl Work for Order {
 struct Bank;
 
 impl<R: Wait> Program<R> for Bank {
-    /// How many transfers were refused.
-    type Out = u64;
+    /// Whether a transfer was refused.
+    type Out = bool;
 
     type Answer = anyhow::Result<String>;
 
@@ -67,22 +66,21 @@ impl<R: Wait> Program<R> for Bank {
         drop(client.update(&mut Order::Open));
     }
 
-    fn run<J: JournalId>(&self, client: &mut Client<'_, J, R>) -> u64 {
-        let mut moved: u64 = 0;
+    fn run<J: JournalId>(&self, client: &mut Client<'_, J, R>) -> bool {
+        let mut refused = false;
         for n in 0..60u64 {
             let to = (n * 5 + 1 + client.number() as u64 % 2) % ACCOUNTS;
             let order = client.update(&mut Order::Move(n % ACCOUNTS, to, n * 7 % 90));
-            moved = moved.saturating_add(u64::from(order.is_ok_and(|order| order.value)));
+            refused |= !order.is_ok_and(|order| order.value);
         }
-        60u64.saturating_sub(moved)
+        refused
     }
 
-    fn end<J: JournalId>(self, client: &mut Client<'_, J, R>, refused: Vec<u64>) -> Self::Answer {
-        let table = pack(client.alloc(), &[Text("account")])?;
+    fn end<J: JournalId>(self, client: &mut Client<'_, J, R>, refused: Vec<bool>) -> Self::Answer {
+        let (alloc, poor) = (client.alloc(), refused.contains(&true));
+        let table = pack(alloc, &[Text("account")])?;
         let rows = client.view()?.range_prefix(table.as_bytes())?;
-        let all = sum_of(rows.as_slice());
-        let poor = refused.iter().any(|n| *n > 0);
-        let (accounts, alloc) = (rows.len(), client.alloc());
+        let (accounts, all) = (rows.len(), sum_of(rows.as_slice()));
         Ok(format!(in alloc; "{accounts} accounts, {all} in all, some had too little: {poor}")?)
     }
 }

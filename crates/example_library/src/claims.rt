@@ -1,119 +1,52 @@
-//! A queue whose jobs are claimed before they are done: a claim lies at the timestamp at which it
-//! was made, so that the oldest comes first. Two workers on two threads forget some of what they
-//! claim; a claim that has grown old is taken over, and each job is done once.
+//! A queue whose jobs are claimed before they are done: each lies at the timestamp of its claim, or
+//! at 0 where nobody has claimed it, so that what waits longest comes first. Two workers on two
+//! threads forget some of what they claim; a claim that has grown old is taken over, and each job
+//! is done once.
+mod jobs;
+
+use jobs::{JOBS, OLD, Order, Place, Tally, all};
 use std::sync::Wait;
 use std::thread::Threads;
 use tx_kv::*;
-use tx_tuple::Part::{Text, Unsigned};
-use tx_tuple::{OwnedPart, Part, pack, unpack};
 
-// How many jobs there are.
-const JOBS: u64 = 12;
-
-// After how many ticks a claim is old.
-const OLD: u64 = 40;
-
-// Puts a row of which the key says all.
-fn note<T: Tx>(tx: &mut T, parts: &[Part<'_>]) -> Result<(), Stop> {
-    let (key, value) = (pack(tx.alloc(), parts)?, Value::new(tx.alloc(), b"")?);
-    tx.put(key, value)
-}
-
-// The first row of a table, and the numbers behind the table's name.
-fn first<T: Tx>(tx: &mut T, table: &str) -> Result<Option<(Key, u64, u64)>, Stop> {
-    let name = pack(tx.alloc(), &[Text(table)])?;
-    let range = KeyRange::prefix(tx.alloc(), name.as_bytes())?;
-    let Some(row) = tx.page(range, 1)?.rows.into_iter().next() else {
+// Claims the first job of the queue, and tells whether somebody else had claimed it before; none
+// where others have claimed what is left. It refuses where nothing is.
+fn claim<T: Tx>(tx: &mut T) -> Result<Option<(Place, bool)>, Failure<()>> {
+    let (alloc, now) = (tx.alloc(), tx.start().get());
+    let first = tx.page(all(alloc)?, 1)?.rows.into_iter().next();
+    let row = first.ok_or(Failure::Own(()))?;
+    let Place { at, job } = Place::of(alloc, &row.key)?.ok_or(Failure::Own(()))?;
+    if at > 0 && now.saturating_sub(at) <= OLD {
         return Ok(None);
-    };
-    let Some(parts) = unpack(tx.alloc(), &row.key)? else {
-        return Ok(None);
-    };
-    Ok(match parts.as_slice() {
-        [_, OwnedPart::Unsigned(job)] => Some((row.key, *job, 0)),
-        [_, OwnedPart::Unsigned(at), OwnedPart::Unsigned(job)] => Some((row.key, *job, *at)),
-        _ => None,
-    })
-}
-
-/// What a worker does to the queue: it adds the jobs, claims the oldest claim, where that is old,
-/// and else the next job, or notes a job that it claimed as done.
-#[derive(Drop)]
-enum Order {
-    Fill,
-    Claim,
-    Finish(u64, u64),
-}
-
-/// What comes of that.
-#[derive(Drop)]
-enum Told {
-    /// It is done.
-    Done,
-    /// A job, when it was claimed, and whether somebody else had claimed it.
-    Job(u64, u64, bool),
-    /// Others have claimed what is left.
-    Wait,
-    /// Nothing is left; or the claim was taken over.
-    Nothing,
-}
-
-// Claims a job.
-fn claim<T: Tx>(tx: &mut T) -> Result<Told, Stop> {
-    let now = tx.start().get();
-    let claimed = first(tx, "claimed")?;
-    let waits = claimed.is_some();
-    let over = matches!(&claimed, Some((_, _, at)) if now.saturating_sub(*at) > OLD);
-    let next = if over { claimed } else { first(tx, "to do")? };
-    let Some((key, job, _)) = next else {
-        return Ok(if waits { Told::Wait } else { Told::Nothing });
-    };
-    tx.delete(key)?;
-    note(tx, &[Text("claimed"), Unsigned(now), Unsigned(job)])?;
-    Ok(Told::Job(job, now, over))
-}
-
-// Notes a job as done.
-fn finish<T: Tx>(tx: &mut T, job: u64, at: u64) -> Result<Told, Stop> {
-    let claim = pack(tx.alloc(), &[Text("claimed"), Unsigned(at), Unsigned(job)])?;
-    if tx.get(&claim)?.is_none() {
-        return Ok(Told::Nothing);
     }
-    tx.delete(claim)?;
-    note(tx, &[Text("done"), Unsigned(job)])?;
-    Ok(Told::Done)
+    let claimed = Place { at: now, job };
+    tx.delete(row.key)?;
+    tx.put(claimed.key(alloc)?, Value::new(alloc, b"")?)?;
+    Ok(Some((claimed, at > 0)))
 }
 
 impl Work for Order {
-    type Out = Told;
+    type Out = Option<(Place, bool)>;
 
+    /// Nothing is left; or the claim was taken over.
     type Err = ();
 
-    fn apply<T: Tx>(&mut self, tx: &mut T) -> Result<Told, Failure<()>> {
+    fn apply<T: Tx>(&mut self, tx: &mut T) -> Result<Self::Out, Failure<()>> {
+        let alloc = tx.alloc();
         match *self {
-            Order::Claim => return Ok(claim(tx)?),
-            Order::Finish(job, at) => return Ok(finish(tx, job, at)?),
-            Order::Fill => (),
+            Order::Claim => return claim(tx),
+            Order::Finish(claimed) => {
+                let key = claimed.key(alloc)?;
+                tx.get(&key)?.ok_or(Failure::Own(()))?;
+                tx.delete(key)?;
+            }
+            Order::Fill => {
+                for job in 0..JOBS {
+                    tx.put(Place { at: 0, job }.key(alloc)?, Value::new(alloc, b"")?)?;
+                }
+            }
         }
-        for job in 0..JOBS {
-            note(tx, &[Text("to do"), Unsigned(job)])?;
-        }
-        Ok(Told::Done)
-    }
-}
-
-/// How many jobs a worker has done, how many claims it took over, and how many it lost or forgot.
-#[derive(Clone, Copy, Drop)]
-struct Tally(u64, u64, u64);
-
-impl Tally {
-    // The sum of two.
-    fn and(self, other: Tally) -> Tally {
-        Tally(
-            self.0.saturating_add(other.0),
-            self.1.saturating_add(other.1),
-            self.2.saturating_add(other.2),
-        )
+        Ok(None)
     }
 }
 
@@ -133,19 +66,14 @@ impl<R: Wait> Program<R> for Queue {
     fn run<J: JournalId>(&self, client: &mut Client<'_, J, R>) -> Tally {
         let mut counts = Tally(0, 0, 0);
         for _ in 0..100_000u32 {
-            let told = client
-                .update(&mut Order::Claim)
-                .map(|claimed| claimed.value);
-            let (job, at, over) = match told {
-                Ok(Told::Job(job, at, over)) => (job, at, over),
-                Ok(Told::Wait) => continue,
-                _ => break,
+            let (claimed, over) = match client.update(&mut Order::Claim).map(|told| told.value) {
+                Ok(Some(claim)) => claim,
+                Ok(None) => continue,
+                Err(_) => break,
             };
             // Each third job is forgotten by whoever claims it first.
-            let kept = (over || job % 3 != 0)
-                && client
-                    .update(&mut Order::Finish(job, at))
-                    .is_ok_and(|done| matches!(done.value, Told::Done));
+            let kept = (over || claimed.job % 3 != 0)
+                && client.update(&mut Order::Finish(claimed)).is_ok();
             counts = counts.and(Tally(u64::from(kept), u64::from(over), u64::from(!kept)));
         }
         counts

@@ -53,8 +53,7 @@ impl Work for Sell {
 
 // What a view shows of all items together.
 fn stock<J: JournalId, R: Wait>(mut view: View<'_, '_, J, R>) -> Result<u64, Stop> {
-    let items = view.range_prefix(b"item/")?;
-    Ok(sum_of(items.as_slice()))
+    Ok(sum_of(view.range_prefix(b"item/")?.as_slice()))
 }
 
 /// A stock that is filled, and then sold.
@@ -82,7 +81,7 @@ impl<R: Wait> Program<R> for Shop {
         let before = stock(client.view_at(pin.at()))?;
         drop(pin);
         let left = stock(client.view()?)?;
-        let (times, alloc) = (client.stats().collections, client.alloc());
+        let (alloc, times) = (client.alloc(), client.stats().collections);
         Ok(format!(in alloc;
             "{before} in stock, {left} left, old versions collected {times} times"
         )?)

@@ -5,8 +5,8 @@ use std::alloc::Global;
 use std::sync::Wait;
 use std::thread::Threads;
 use tx_kv::*;
-use tx_tuple::Part::{Text, Unsigned};
-use tx_tuple::{OwnedPart, pack, unpack};
+use tx_tuple::Part::{Bytes, Text, Unsigned};
+use tx_tuple::pack;
 
 // The addresses that all users want, and two that nobody has.
 const WANTED: [&str; 5] = ["ann@hill", "bob@lake", "eve@mill", "sue@park", "tom@road"];
@@ -14,8 +14,8 @@ const WANTED: [&str; 5] = ["ann@hill", "bob@lake", "eve@mill", "sue@park", "tom@
 const FREE: [&str; 2] = ["amy@glen", "zoe@dale"];
 
 // The key of an address in the index.
-fn entry(alloc: Global, address: &str) -> Result<Key, Fault> {
-    pack(alloc, &[Text("address"), Text(address)])
+fn entry(alloc: Global, address: &[u8]) -> Result<Key, Fault> {
+    pack(alloc, &[Text("address"), Bytes(address)])
 }
 
 /// Gives a user an address, in place of its own where it has one.
@@ -28,37 +28,27 @@ impl Work for Settle {
     type Err = ();
 
     fn apply<T: Tx>(&mut self, tx: &mut T) -> Result<(), Failure<()>> {
-        let Settle(number, address) = *self;
-        let user = pack(tx.alloc(), &[Text("user"), Unsigned(number)])?;
+        let (alloc, address) = (tx.alloc(), self.1.as_bytes());
+        let user = pack(alloc, &[Text("user"), Unsigned(self.0)])?;
         if let Some(old) = tx.get(&user)? {
-            let old = str::from_utf8(old.as_bytes()).unwrap_or("");
-            tx.delete(entry(tx.alloc(), old)?)?;
+            tx.delete(entry(alloc, old.as_bytes())?)?;
         }
-        let leads = Value::new(tx.alloc(), user.as_bytes())?;
-        tx.insert(entry(tx.alloc(), address)?, leads)?;
-        let held = Value::new(tx.alloc(), address.as_bytes())?;
-        Ok(tx.put(user, held)?)
+        tx.insert(entry(alloc, address)?, Value::new(alloc, user.as_bytes())?)?;
+        Ok(tx.put(user, Value::new(alloc, address)?)?)
     }
 }
 
 // How many users there are, and how many addresses lead to a user who has them.
 fn counted<J: JournalId, R: Wait>(view: &mut View<'_, '_, J, R>) -> Result<(usize, usize), Stop> {
-    let (users, index) = (
-        pack(view.alloc(), &[Text("user")])?,
-        pack(view.alloc(), &[Text("address")])?,
-    );
-    let users = view.range_prefix(users.as_bytes())?.len();
-    let mut right: usize = 0;
+    let (alloc, mut right) = (view.alloc(), 0usize);
+    let table = pack(alloc, &[Text("user")])?;
+    let index = pack(alloc, &[Text("address")])?;
     for row in view.range_prefix(index.as_bytes())? {
-        let user = Key::new(view.alloc(), row.value.as_bytes())?;
-        let (Some(held), Some(parts)) = (view.get(&user)?, unpack(view.alloc(), &row.key)?) else {
-            continue;
-        };
-        if let [_, OwnedPart::Text(address)] = parts.as_slice() {
-            right = right.saturating_add(usize::from(address.as_bytes() == held.as_bytes()));
-        }
+        let user = view.get(&Key::new(alloc, row.value.as_bytes())?)?;
+        let address = user.as_ref().map_or(&b""[..], Value::as_bytes);
+        right = right.saturating_add(usize::from(row.key == entry(alloc, address)?));
     }
-    Ok((users, right))
+    Ok((view.range_prefix(table.as_bytes())?.len(), right))
 }
 
 /// Each client settles users of its own at all addresses.

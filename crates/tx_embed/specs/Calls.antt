@@ -1,5 +1,5 @@
 -- What a call makes of a store.
-use Rattle.std.specs.Prelude.{◌≡◌, ◌⊎◌, ℕ, List, [], All, slice_get, slice_set, Option, Some, None}
+use Rattle.std.specs.Prelude.{◌≡◌, ◌⊎◌, ◌<◌, ◌+◌, ℕ, List, [], length, slice_get, slice_set, Option, Some, None}
 use Rattle.tx_types.specs.declared.key.Key.{Key}
 use Rattle.tx_journal.specs.Known.{Known, known}
 use Rattle.tx_update.specs.Updates.{SeatGoesOn}
@@ -17,14 +17,15 @@ pub record StoreState : Type 0 where
   pub resolver : Known
   pub said : Said
 
--- a client with no transaction that is open
-abbrev pub IsIdle : SlotContent → Type 0
-IsIdle (Idle k) = Unit {0}
-IsIdle _ = ⊥
+-- a seat as its journal deals it: it knows of no event, and may draw 2^32 ticks
+abbrev pub dealt : ℕ → Known
+dealt number = known number 4294967296 []
 
--- no client has a transaction that is open
+-- No client has a transaction that is open, and nothing was asked: all seats but the region's are
+-- there, as the journal dealt them, that of the resolver first, and only who has one asks a region.
 abbrev pub IsNew : StoreState → Type 0
-IsNew s = All IsIdle s.slots
+IsNew s = (s.resolver ≡ dealt 1)
+    × ((n : ℕ) → n < length s.slots → slice_get s.slots n ≡ Some (Idle (dealt (2 + n))))
 
 -- the seat that resolves, which is there between two calls
 abbrev pub seat_in : Option Known → Known

@@ -1,9 +1,10 @@
 //! The store: its region, and its clients.
-ghost use Rattle.std.specs.Prelude.{◌≡◌, ◌⊎◌, ◌<◌, ◌≤◌, ◌+◌, [], All, IfOk, IfErr, OnOk, OnErr, length, true, false, vec_len};
+ghost use Rattle.std.specs.Prelude.{◌≡◌, ◌⊎◌, ◌<◌, ◌≤◌, ◌+◌, [], IfOk, IfErr, OnOk, OnErr, length, map, true, false, vec_len};
 ghost use Rattle.tx_cells.specs.Contents.{nothing_held};
 ghost use Rattle.tx_flat.specs.Flats.{flat_content};
 ghost use Rattle.tx_embed.specs.Answers.{code_of, said_bytes, laid_over};
-ghost use Rattle.tx_embed.specs.Calls.{Called, IsIdle, IsNew, saying};
+ghost use Rattle.tx_embed.specs.Calls.{Called, IsNew, saying};
+ghost use Rattle.tx_embed.specs.declared.client.Slot.TheVariants.{Idle};
 
 use crate::answer::{Said, code_of, put_said};
 use crate::client::{ClientSlot, Slot, act};
@@ -41,7 +42,7 @@ pub fn journal(alloc: Global, clients: usize) -> Result<(Opened, FlatCells), Fau
 
 // A slot for each seat.
 fn slots_of<J: JournalId>(alloc: Global, seats: Vec<Seat<J>>) -> Result<Vec<ClientSlot<J>>, Fault>
-    ensures idle { IfOk result (λ slots. All IsIdle slots.items) }
+    ensures each { IfOk result (λ slots. slots.items ≡ map Idle seats.items) }
     ensures count { IfOk result (λ slots. vec_len slots ≡ vec_len seats) }
     ensures err { IfErr result (λ e. e ≡ Fault.OutOfMemory) }
 {
