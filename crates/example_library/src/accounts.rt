@@ -18,7 +18,7 @@ fn account(alloc: Global, number: u64) -> Result<Key, Fault> {
     pack(alloc, &[Text("account"), Unsigned(number)])
 }
 
-/// Opens the accounts, or moves an amount from one to another: false where that has less.
+/// Opens the accounts, or moves an amount from one to another: refused where that has less.
 #[derive(Drop)]
 enum Order {
     Open,
@@ -26,29 +26,29 @@ enum Order {
 }
 
 impl Work for Order {
-    type Out = bool;
+    type Out = ();
 
     type Err = ();
 
-    fn apply<T: Tx>(&mut self, tx: &mut T) -> Result<bool, Failure<()>> {
+    fn apply<T: Tx>(&mut self, tx: &mut T) -> Result<(), Failure<()>> {
         let alloc = tx.alloc();
         let Order::Move(from, to, amount) = *self else {
             for number in 0..ACCOUNTS {
                 tx.insert(account(alloc, number)?, pack_number(alloc, FIRST)?)?;
             }
-            return Ok(true);
+            return Ok(());
         };
         let (from, to) = (account(alloc, from)?, account(alloc, to)?);
-        let less = get_number(tx, &from)?.and_then(|held| held.checked_sub(amount));
-        let more = get_number(tx, &to)?.and_then(|held| held.checked_add(amount));
-        let (Some(less), Some(more)) = (less, more) else {
-            return Ok(false);
+        let (Some(less), Some(more)) = (get_number(tx, &from)?, get_number(tx, &to)?) else {
+            return Err(Failure::Own(()));
         };
+        let less = less.checked_sub(amount).ok_or(Failure::Own(()))?;
+        let more = more.checked_add(amount).ok_or(Failure::Own(()))?;
         if from != to {
             put_number(tx, from, less)?;
             put_number(tx, to, more)?;
         }
-        Ok(true)
+        Ok(())
     }
 }
 
@@ -56,11 +56,11 @@ impl Work for Order {
 #[derive(Drop)]
 struct Bank;
 
-impl<R: Wait> Program<R> for Bank {
+impl<R: Wait + Print> Program<R> for Bank {
     /// Whether a transfer was refused.
     type Out = bool;
 
-    type Answer = anyhow::Result<String>;
+    type Answer = anyhow::Result<()>;
 
     fn begin<J: JournalId>(&mut self, client: &mut Client<'_, J, R>) {
         drop(client.update(&mut Order::Open));
@@ -70,24 +70,23 @@ impl<R: Wait> Program<R> for Bank {
         let mut refused = false;
         for n in 0..60u64 {
             let to = (n * 5 + 1 + client.number() as u64 % 2) % ACCOUNTS;
-            let order = client.update(&mut Order::Move(n % ACCOUNTS, to, n * 7 % 90));
-            refused |= !order.is_ok_and(|order| order.value);
+            let mut order = Order::Move(n % ACCOUNTS, to, n * 7 % 90);
+            refused |= client.update(&mut order).is_err();
         }
         refused
     }
 
     fn end<J: JournalId>(self, client: &mut Client<'_, J, R>, refused: Vec<bool>) -> Self::Answer {
-        let (alloc, poor) = (client.alloc(), refused.contains(&true));
-        let table = pack(alloc, &[Text("account")])?;
+        let table = pack(client.alloc(), &[Text("account")])?;
         let rows = client.view()?.range_prefix(table.as_bytes())?;
-        let (accounts, all) = (rows.len(), sum_of(rows.as_slice()));
-        Ok(format!(in alloc; "{accounts} accounts, {all} in all, some had too little: {poor}")?)
+        let all = sum_of(rows.as_slice());
+        let (accounts, poor, rt) = (rows.len(), refused.contains(&true), client.rt());
+        Ok(println!(rt; "{accounts} accounts, {all} in all, some had too little: {poor}")?)
     }
 }
 
 /// Opens a store of two regions, and has two clients move money in it.
 pub fn show<R: Print + AllocGlobal + Threads + Wait + Sync>(rt: &R) -> anyhow::Result<()> {
     let middle = account(rt.alloc(), ACCOUNTS / 2)?;
-    let told = with_store(rt, rt.alloc(), &[middle.as_bytes()], 2, Bank)??;
-    Ok(println!(rt; "{told}")?)
+    with_store(rt, rt.alloc(), &[middle.as_bytes()], 2, Bank)?
 }

@@ -53,17 +53,18 @@ impl Work for Sell {
 
 // What a view shows of all items together.
 fn stock<J: JournalId, R: Wait>(mut view: View<'_, '_, J, R>) -> Result<u64, Stop> {
-    Ok(sum_of(view.range_prefix(b"item/")?.as_slice()))
+    let items = view.range_prefix(b"item/")?;
+    Ok(sum_of(items.as_slice()))
 }
 
 /// A stock that is filled, and then sold.
 #[derive(Drop)]
 struct Shop;
 
-impl<R: Wait> Program<R> for Shop {
+impl<R: Wait + Print> Program<R> for Shop {
     type Out = ();
 
-    type Answer = anyhow::Result<String>;
+    type Answer = anyhow::Result<()>;
 
     fn maps(&self) -> Maps {
         Maps::Flat
@@ -78,18 +79,15 @@ impl<R: Wait> Program<R> for Shop {
         for _ in 0..6u8 {
             client.update(&mut Sell)?;
         }
-        let before = stock(client.view_at(pin.at()))?;
+        let kept = stock(client.view_at(pin.at()))?;
         drop(pin);
         let left = stock(client.view()?)?;
-        let (alloc, times) = (client.alloc(), client.stats().collections);
-        Ok(format!(in alloc;
-            "{before} in stock, {left} left, old versions collected {times} times"
-        )?)
+        let (rt, times) = (client.rt(), client.stats().collections);
+        Ok(println!(rt; "{kept} in stock, {left} left, old versions collected {times} times")?)
     }
 }
 
 /// Opens a store of two regions, and sells what is in it.
 pub fn show<R: Print + AllocGlobal + Threads + Wait + Sync>(rt: &R) -> anyhow::Result<()> {
-    let told = with_store(rt, rt.alloc(), &[b"item/\x02"], 0, Shop)??;
-    Ok(println!(rt; "{told}")?)
+    with_store(rt, rt.alloc(), &[b"item/\x02"], 0, Shop)?
 }

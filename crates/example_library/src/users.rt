@@ -55,11 +55,11 @@ fn counted<J: JournalId, R: Wait>(view: &mut View<'_, '_, J, R>) -> Result<(usiz
 #[derive(Drop)]
 struct Town;
 
-impl<R: Wait> Program<R> for Town {
+impl<R: Wait + Print> Program<R> for Town {
     /// How often an address was taken.
     type Out = u32;
 
-    type Answer = anyhow::Result<String>;
+    type Answer = anyhow::Result<()>;
 
     fn run<J: JournalId>(&self, client: &mut Client<'_, J, R>) -> u32 {
         let mut taken: u32 = 0;
@@ -79,16 +79,16 @@ impl<R: Wait> Program<R> for Town {
         client.update(&mut Settle(10, FREE[0]))?;
         client.update(&mut Settle(10, FREE[1]))?;
         let free = client.update(&mut Settle(11, FREE[0])).is_ok();
-        Ok(format!(in client.alloc();
-            "{users} users, {right} entries lead to them, {taken} times an address was taken\n\
-            who moves leaves an address free: {free}"
-        )?)
+        let rt = client.rt();
+        println!(rt;
+            "{users} users, {right} entries lead to them, {taken} times an address was taken"
+        )?;
+        Ok(println!(rt; "who moves leaves an address free: {free}")?)
     }
 }
 
 /// Opens a store of two regions, the index and the table, and settles users in it.
 pub fn show<R: Print + AllocGlobal + Threads + Wait + Sync>(rt: &R) -> anyhow::Result<()> {
     let table = pack(rt.alloc(), &[Text("user")])?;
-    let told = with_store(rt, rt.alloc(), &[table.as_bytes()], 2, Town)??;
-    Ok(println!(rt; "{told}")?)
+    with_store(rt, rt.alloc(), &[table.as_bytes()], 2, Town)?
 }

@@ -4,6 +4,8 @@ pub mod ClientActs
 mod EnteredKeys
 -- What a read finds by what it was answered, and where another comes before it.
 pub mod Found
+-- The seats of a new store, behind the region's: the resolver's, and then a slot for each.
+mod NewSlots
 -- A lock of which a session's scan is told is of a key of its range.
 mod ScanLocks
 -- A session that goes on has still seen its start, and what is told of its end.

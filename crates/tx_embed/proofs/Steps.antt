@@ -13,10 +13,11 @@ use Rattle.tx_transaction.specs.declared.state.Terms.{Terms}
 use Rattle.tx_client.specs.Calls.{Seated, IsDecidedSo}
 use Rattle.tx_update.specs.declared.stops.Stop.{Stop}
 use Rattle.tx_update.specs.Reads.{HasSeenStart}
-use Rattle.tx_update.specs.Updates.{Follows, EndedWith, Wrote}
+use Rattle.tx_update.specs.Stops.{IsOwnRefusal}
+use Rattle.tx_update.specs.Updates.{Follows, IsWithoutEffect, EndedWith, Wrote}
 use Rattle.tx_update.proofs.CallSequences.{goes_begins}
 use Rattle.tx_embed.specs.declared.open_transaction.NotCommitted.{NotCommitted}
-use Rattle.tx_embed.specs.Transactions.{Commits, EndedAllWritten, NamesEntered, TellsOf, told_why}
+use Rattle.tx_embed.specs.Transactions.{Commits, EndedAllWritten, EndedInVain, NamesEntered, TellsOf, told_why}
 
 pub seen_more : (bounds : List Key) (old new : Seated) → Follows old new → IsWorldRun bounds new.seat.events
     → HasSeenStart old → HasSeenStart new
@@ -27,6 +28,11 @@ seen_more bounds old new f run seen =
       seen,
       last_on bounds old.seat.events new.seat.events run (goes_begins old.seat new.seat f.seat),
     )
+
+-- whatever stopped it, this is so
+pub at_each_stop : {W : Type 0} (done : Result (Unit {0}) Stop) → W → IfErr done (λ s. IsOwnRefusal s ⊎ W)
+at_each_stop (Ok x) so = tt
+at_each_stop (Err s) so = inr so
 
 module _ (bounds : List Key) (terms : Terms) (old session : Seated) (new : Known)
     (run : IsWorldRun bounds session.seat.events)
@@ -59,17 +65,41 @@ module _ (bounds : List Key) (terms : Terms) (old session : Seated) (new : Known
   names_why (Ok x) names = tt
   names_why (Err s) names = names
 
+  abbrev Why : Stop → Type 0
+  Why s = IsOwnRefusal s ⊎ Written
+
+  why_told : (done : Result (Unit {0}) Stop) → OnOk done Written → IfErr done Why → Why (told_why done)
+  why_told (Ok x) wrote why = inr wrote
+  why_told (Err s) wrote why = why
+
+  in_vain : (o : Outcome) (s : Stop) → Ended o → IsWithoutEffect o → NamesEntered old.state.buffer s → Why s
+      → EndedInVain bounds terms old o s new
+  in_vain o s (ends, same) none names why = (
+    ends,
+    none,
+    names,
+    elim why [
+      | inl own ↦ inl own
+      | inr wrote ↦ inr (subst (λ (t : Seated). Wrote bounds terms old.state.start old.state.buffer old.seat t.seat)
+            (sym same) wrote)
+    ],
+  )
+
   pub commits_so : (o : Outcome) (done : Result (Unit {0}) Stop) (r : Result (Option ℕ) NotCommitted)
-      → Ended o → OnOk done Written → IfErr done (NamesEntered old.state.buffer) → TellsOf o done r
+      → Ended o → OnOk done Written → IfErr done (NamesEntered old.state.buffer) → IfErr done Why → TellsOf o done r
       → Commits bounds terms old r new
-  commits_so (outcome.Committed c) done r ended wrote names told =
+  commits_so (outcome.Committed c) done r ended wrote names why told =
       subst (λ x. Commits bounds terms old x new) (sym told)
       (all_written (outcome.Committed c) ended (committed_written c ended))
-  commits_so (outcome.Unknown why) done r ended wrote names told =
-      subst (λ x. Commits bounds terms old x new) (sym told) (inl (outcome.Unknown why, ended.0, tt))
-  commits_so outcome.ReadOnly (Ok x) r ended wrote names told =
+  commits_so (outcome.Unknown cause) done r ended wrote names why told =
+      subst (λ x. Commits bounds terms old x new) (sym told) (inl (outcome.Unknown cause, ended.0, tt))
+  commits_so outcome.ReadOnly (Ok x) r ended wrote names why told =
       subst (λ x. Commits bounds terms old x new) (sym told) (all_written outcome.ReadOnly ended wrote)
-  commits_so outcome.ReadOnly (Err s) r ended wrote names told =
-      subst (λ x. Commits bounds terms old x new) (sym told) (outcome.ReadOnly, ended.0, tt, names)
-  commits_so outcome.Aborted done r ended wrote names told =
-      subst (λ x. Commits bounds terms old x new) (sym told) (outcome.Aborted, ended.0, tt, names_why done names)
+  commits_so outcome.ReadOnly (Err s) r ended wrote names why told =
+      subst (λ x. Commits bounds terms old x new) (sym told)
+      (outcome.ReadOnly, in_vain outcome.ReadOnly s ended tt names why)
+  commits_so outcome.Aborted done r ended wrote names why told =
+      subst (λ x. Commits bounds terms old x new) (sym told) (
+        outcome.Aborted,
+        in_vain outcome.Aborted (told_why done) ended tt (names_why done names) (why_told done wrote why),
+      )

@@ -11,6 +11,7 @@ use Rattle.tx_transaction.specs.Sessions.{finish_of}
 use Rattle.tx_client.specs.Calls.{Seated, seated, Records}
 use Rattle.tx_update.specs.declared.stops.Stop.{Stop}
 use Rattle.tx_update.specs.declared.stops.Stop.TheVariants as stops
+use Rattle.tx_update.specs.Stops.{IsOwnRefusal}
 use Rattle.tx_update.specs.Updates.{IsWithoutEffect, MayHaveDeclared, EndedWith, Wrote}
 use Rattle.tx_embed.specs.declared.open_transaction.NotCommitted.{NotCommitted}
 use Rattle.tx_embed.specs.declared.open_transaction.NotCommitted.TheVariants as uncommitted
@@ -62,15 +63,20 @@ module _ (bounds : List Key) (terms : Terms) where
   EndedAllWritten old o new = (ends : EndedWith bounds old.seat old.state.start o new)
       × WroteBy old ends.session
 
+  -- It ended without effect, and this is told to have stopped it: of a key that is told something
+  -- was entered; and unless it was itself refused something, as memory, what was entered is what
+  -- stands declared of it.
+  abbrev pub EndedInVain : Seated → Outcome → Stop → Known → Type 0
+  EndedInVain old o stop new = (ends : EndedWith bounds old.seat old.state.start o new) × IsWithoutEffect o
+      × NamesEntered old.state.buffer stop × (IsOwnRefusal stop ⊎ WroteBy old ends.session)
+
   -- What is told of a commit: that it is committed, or that nothing was to be written, of what was
-  -- entered, all of it; that it is without effect, where of a key that is told something was
-  -- entered; or that its fate is not known: `finish` answers that, or nothing, and then its session
-  -- is stopped.
+  -- entered, all of it; that it is without effect, and why; or that its fate is not known: `finish`
+  -- answers that, or nothing, and then its session is stopped.
   abbrev pub Commits : Seated → Result (Option ℕ) NotCommitted → Known → Type 0
   Commits old (Ok (Some at)) new = EndedAllWritten old (Committed at) new
   Commits old (Ok None) new = EndedAllWritten old ReadOnly new
-  Commits old (Err (uncommitted.Stopped stop)) new = (o : Outcome) × EndedWith bounds old.seat old.state.start o new
-      × IsWithoutEffect o × NamesEntered old.state.buffer stop
+  Commits old (Err (uncommitted.Stopped stop)) new = (o : Outcome) × EndedInVain old o stop new
   Commits old (Err uncommitted.Unknown) new =
       ((o : Outcome) × EndedWith bounds old.seat old.state.start o new × IsNotKnown o)
       ⊎ ((session : Seated) × MayHaveDeclared old session × (finish_of session.state ≡ None)

@@ -74,6 +74,8 @@ pub(crate) fn write<J: JournalId, S: Sender<Request<J>, Reply<J>>>(
         ⊎ (declared result.0.seat.events session.state.start ≡ None) }
     ensures ended { OnOk result.2 (HasOutcome result.0) }
     ensures stopped { IfErr result.2 (λ stop. IsOwnRefusal stop ⊎ HasOutcome result.0) }
+    ensures why { IfErr result.2 (λ stop. IsOwnRefusal stop
+        ⊎ Wrote J.bounds terms.now session.state.start session.state.buffer session.seat result.0.seat) }
     ensures names { IfErr result.2 (NamesEntered session.state.buffer) }
 {
     if let Err(fault) = session.declare(*terms) {

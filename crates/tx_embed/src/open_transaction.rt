@@ -10,7 +10,7 @@ ghost use Rattle.tx_client.specs.Calls.{Seated, BeganAt, Records};
 ghost use Rattle.tx_journal.specs.Senders.{IsSender};
 ghost use Rattle.tx_update.specs.declared.stops.Stop.TheVariants as stop;
 ghost use Rattle.tx_update.specs.Reads.{LosesRead};
-ghost use Rattle.tx_update.specs.Stops.{IsEntryStop};
+ghost use Rattle.tx_update.specs.Stops.{IsEntryStop, IsOwnRefusal};
 ghost use Rattle.tx_update.specs.Updates.{SeatGoesOn, MayHaveDeclared};
 ghost use Rattle.tx_embed.specs.Transactions.{Enters, Commits, NamesEntered, TellsOf, WroteBy, told_why};
 ghost use Rattle.tx_embed.specs.Reads.{Gets, Nexts};
@@ -83,6 +83,7 @@ fn ended<J: JournalId>(session: Session<J>, done: Result<(), Stop>) -> (Ending, 
     ensures { (terms : Given) (old : Seated) → MayHaveDeclared old session
         → OnOk done (WroteBy J.bounds terms old session)
         → IfErr done (NamesEntered old.state.buffer)
+        → IfErr done (λ stop. IsOwnRefusal stop ⊎ WroteBy J.bounds terms old session)
         → (WroteBy J.bounds terms old session ⊎ (declared session.seat.events old.state.start ≡ None))
         → Commits J.bounds terms old result.0 result.1 }
 {

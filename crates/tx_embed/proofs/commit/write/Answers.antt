@@ -7,6 +7,7 @@ use Rattle.tx_update.specs.Updates.{Wrote}
 use Rattle.tx_update.proofs.CallSequences.{goes_itself, follows_same, declares_goes}
 use Rattle.tx_update.proofs.CommitOrder.{writes_nothing, writes_empty, writes_placed, some_entered, no_primary_ends, still_open, open_stands, wrote_there, wrote_on, well_or_not}
 use Rattle.tx_embed.specs.Transactions.{NamesEntered}
+use Rattle.tx_embed.proofs.Steps.{at_each_stop}
 use Rattle.tx_embed.proofs.commit.write.Goals as goal
 
 pub returns-in-Err-clause-session : goal.returns-in-Err-clause-session
@@ -80,6 +81,14 @@ returns-clause-at_most g c =
 pub returns-then-not-has_primary-clause-ended : goal.returns-then-not-has_primary-clause-ended
 returns-then-not-has_primary-clause-ended g c =
     no_primary_ends c.declare.new.self (search (rules, c.has_primary.ensures, c.if-not-has_primary.true))
+
+pub returns-clause-why : goal.returns-clause-why
+returns-clause-why g c =
+    at_each_stop c.carry-session.result.2
+    (wrote_on g.J.JournalId.bounds c.args.terms.now c.args.session c.declare.new.self c.in_default.ensures.ok.1
+    c.in_default.ensures.ok.2 c.show-2.ensures.stands c.carry-session.result.0.seat
+    (search (rules, c.has_primary.ensures, c.if-not-has_primary.false)) c.show-3.ensures.run
+    c.carry-session.ensures.session.seat)
 
 -- the keys that were declared are those that were entered
 pub returns-clause-names : goal.returns-clause-names

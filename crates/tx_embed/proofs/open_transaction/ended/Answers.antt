@@ -7,18 +7,18 @@ use Rattle.tx_embed.proofs.open_transaction.ended.Goals as goal
 
 pub returns-in-Ok : goal.returns-in-Ok
 returns-in-Ok g c =
-    λ terms old writes wrote names at_most.
+    λ terms old writes wrote names why at_most.
     let bounds = g.J.JournalId.bounds in
     let session = c.args.session in
     commits_so bounds terms old session c.in-Ok.seat c.show.ensures.run at_most c.in-Ok.outcome c.args.done
     c.told_of.result
     (ended_so bounds old session c.in-Ok.outcome old.state.start c.in-Ok.seat c.show.ensures.run c.show.ensures.stands
     writes (sym writes.start) c.in-Ok.ensures.ended c.in-Ok.ensures.in_order)
-    wrote names c.told_of.ensures
+    wrote names why c.told_of.ensures
 
 pub returns-in-Err : goal.returns-in-Err
 returns-in-Err g c =
-    λ terms old writes wrote names at_most.
+    λ terms old writes wrote names why at_most.
     let open_yet = c.in-Err.ensures.open_yet in
     inr (
       c.args.session,

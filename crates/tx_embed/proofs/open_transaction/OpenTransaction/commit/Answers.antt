@@ -10,4 +10,4 @@ returns-clause-commits g c =
     subst
     (λ (s : Seated). Commits g.J.JournalId.bounds terms s c.ended-ending.result.0 c.ended-ending.result.1)
     c.self.view_is
-    (c.ended-ending.ensures terms c.self.inside.session wrote.session wrote.wrote wrote.names wrote.at_most)
+    (c.ended-ending.ensures terms c.self.inside.session wrote.session wrote.wrote wrote.names wrote.why wrote.at_most)
