@@ -29,3 +29,7 @@ module _ (first resolver : Known) (rest : List Known) (count : ℕ)
       let number : suc (suc n) ≡ 2 + n = omega arith in
       ap (λ (xs : List SlotContent). slice_get xs n) is ∙ (slice_get-map Idle rest n ∙ (ap (option_map Idle) at
       ∙ ap (λ j. Some (Idle (dealt j))) number))
+
+pub no_items : {X : Type 0} (xs : List X) → length xs ≡ 0 → xs ≡ []
+no_items [] e = refl
+no_items (x ∷ xs) e = absurd (omega (arith, e))
