@@ -4,7 +4,7 @@ use Rattle.tx_types.specs.declared.key.Key.{Key}
 use Rattle.tx_journal.specs.Known.{Known, known}
 use Rattle.tx_update.specs.Updates.{SeatGoesOn}
 use Rattle.tx_embed.specs.declared.answer.Said.{Said}
-use Rattle.tx_embed.specs.declared.answer.Said.TheVariants.{Misused}
+use Rattle.tx_embed.specs.declared.answer.Said.TheVariants.{Done, Misused}
 use Rattle.tx_embed.specs.declared.client.Slot.TheVariants.{Idle}
 use Rattle.tx_embed.specs.declared.request.ClientAct.{ClientAct}
 use Rattle.tx_embed.specs.Requests.{Parts, parts_in, Asks, IsRefused}
@@ -23,8 +23,9 @@ dealt number = known number 4294967296 []
 
 -- No client has a transaction that is open, and nothing was asked: all seats but the region's are
 -- there, as the journal dealt them, that of the resolver first, and only who has one asks a region.
+-- What was said last is `Done`, which is told by no bytes.
 abbrev pub IsNew : StoreState → Type 0
-IsNew s = (s.resolver ≡ dealt 1)
+IsNew s = (s.resolver ≡ dealt 1) × (s.said ≡ Done)
     × ((n : ℕ) → n < length s.slots → slice_get s.slots n ≡ Some (Idle (dealt (2 + n))))
 
 -- the seat that resolves, which is there between two calls

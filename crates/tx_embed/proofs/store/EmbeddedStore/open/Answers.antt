@@ -1,4 +1,4 @@
-use Rattle.std.proofs.Common.{◌≡◌, ◌<◌, ◌+◌, ◌∷◌, ℕ, List, length, slice_get, Some, ap, subst, ◌∙◌, arith}
+use Rattle.std.proofs.Common.{◌≡◌, ◌<◌, ◌+◌, ◌∷◌, ℕ, List, length, slice_get, Some, refl, ap, subst, ◌∙◌, arith}
 use Rattle.tx_journal.specs.Known.{Known}
 use Rattle.tx_embed.specs.Calls.{dealt}
 use Rattle.tx_embed.proofs.NewSlots.{removed, resolves, waits}
@@ -8,13 +8,13 @@ use Rattle.tx_embed.proofs.store.EmbeddedStore.open.Goals as goal
 pub returns-clause-new : goal.returns-clause-new
 returns-clause-new g c =
     let count = g.J.JournalId.seats in
-    let named = c.in-Ok.ensures in
-    let all = c.in-Ok.seats.items in
+    let named = c.in_ok-journal.ensures in
+    let all = c.in_ok-journal.seats.items in
     let one = c.remove-first.new.self.items in
     let two = c.remove-resolver.new.self.items in
     let first = c.remove-first.result in
     let resolver = c.remove-resolver.result in
-    let size : length all ≡ count = omega (arith, named.count, c.in-Ok.seats.ok.0) in
+    let size : length all ≡ count = omega (arith, named.count, c.in_ok-journal.seats.ok.0) in
     let some : 0 < length all = omega (arith, size, c.requires.some, c.requires.named.1.1) in
     let at_first : all ≡ first ∷ one = removed all one first some c.remove-first.ensures.value
     c.remove-first.ensures.items in
@@ -26,5 +26,6 @@ returns-clause-new g c =
     subst (λ (l : List Known). (k : ℕ) → k < count → slice_get l k ≡ Some (dealt k)) split named.seats in
     let left : length two + 2 ≡ count = omega (arith, size, ap length split) in (
       resolves first resolver two count each left,
-      waits first resolver two count each left c.in-Ok-clients.clients.items c.in-Ok-clients.ensures.each,
+      refl,
+      waits first resolver two count each left c.in_ok-clients.clients.items c.in_ok-clients.ensures.each,
     )
