@@ -5,7 +5,7 @@ use Rattle.tx_embed.proofs.store.slots_of.Goals as goal
 
 pub loop-seat-init : goal.loop-seat-init
 loop-seat-init g c =
-    let same = c.into_iter-seat-iterator.ensures.into_iter_gives in record {
+    let same = c.into_iter-seat-iterator.ensures.into_iter_gives.0 in record {
       each = ap (λ l. l ++ map Idle c.into_iter-seat-iterator.result.rest.items) c.in_ok-slots.ensures.items
           ∙ ap (map Idle) same;
       count = omega (arith, c.in_ok-slots.ensures.len, ap length same, c.args.seats.ok.0);
