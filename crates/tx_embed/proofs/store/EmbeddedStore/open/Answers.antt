@@ -15,10 +15,10 @@ returns-clause-new g c =
     let first = c.remove-first.result in
     let resolver = c.remove-resolver.result in
     let size : length all ≡ count = omega (arith, named.count, c.in_ok-journal.seats.ok.0) in
-    let some : 0 < length all = omega (arith, size, c.requires.some, c.requires.named.1.1) in
+    let some : 0 < length all = omega (arith, size, c.requires.some, c.requires.named.2) in
     let at_first : all ≡ first ∷ one = removed all one first some c.remove-first.ensures.value
     c.remove-first.ensures.items in
-    let more : 0 < length one = omega (arith, size, c.requires.some, c.requires.named.1.1, ap length at_first) in
+    let more : 0 < length one = omega (arith, size, c.requires.some, c.requires.named.2, ap length at_first) in
     let at_second : one ≡ resolver ∷ two = removed one two resolver more c.remove-resolver.ensures.value
     c.remove-resolver.ensures.items in
     let split : all ≡ first ∷ (resolver ∷ two) = at_first ∙ ap (λ l. first ∷ l) at_second in
