@@ -1,5 +1,5 @@
--- What a collection made of the regions, and why it is refused.
-use Rattle.std.specs.Prelude.{◌≡◌, ◌+◌, ℕ, zero, suc, List, length}
+-- How far a collection goes, what it made of the regions, and why it is refused.
+use Rattle.std.specs.Prelude.{◌≡◌, ◌+◌, ℕ, zero, suc, min, List, length, Option}
 use Rattle.tx_types.specs.declared.key.Key.{Key}
 use Rattle.tx_types.specs.declared.fault.Fault.{Fault}
 use Rattle.tx_types.specs.declared.fault.Fault.TheVariants as fault
@@ -7,10 +7,20 @@ use Rattle.tx_plan.specs.declared.answer.Answer.{Answer}
 use Rattle.tx_plan.specs.declared.answer.Answer.TheVariants as answer
 use Rattle.tx_plan.specs.declared.body.Body.{Body}
 use Rattle.tx_plan.specs.declared.body.Body.TheVariants as body
-use Rattle.tx_core.specs.Histories.{History}
+use Rattle.tx_core.specs.Histories.{History, Begins, last}
 use Rattle.tx_client.specs.Facts.{WasAnswered}
 use Rattle.tx_resolve.specs.declared.collector.Counts.{Counts}
 use Rattle.tx_resolve.specs.Collection.{added}
+use Rattle.tx_kv.specs.Counters.{safe_upto}
+
+-- A collection goes as far as it is asked to and as it may: by the least timestamp at which a
+-- client read as it looked, and by the last one that was drawn by then, in what its seat knew at
+-- that moment, which is all that it knew before and maybe more.
+pub record GoesAsFar (keep : ℕ) (old new : History) (oldest : Option ℕ) (safe : ℕ) : Type 0 where
+  pub looked : History
+  pub after : Begins old looked
+  pub before : Begins looked new
+  pub is : safe ≡ min keep (safe_upto oldest (last looked))
 
 -- so many regions, from the region n on, have raised their safe point to this
 abbrev pub AreRaised : History → ℕ → ℕ → ℕ → Type 0

@@ -3,10 +3,10 @@ ghost use Rattle.std.specs.Prelude.{◌≡◌, ◌≤◌, IfOk, IfErr};
 ghost use Rattle.tx_journal.specs.Senders.{IsSender, LosesNothing};
 ghost use Rattle.tx_reader.specs.Readers.{OnlySees};
 ghost use Rattle.tx_kv.specs.Clients.{KeepsTerms};
-ghost use Rattle.tx_kv.specs.Collections.{HasCollected, IsCollectFault};
+ghost use Rattle.tx_kv.specs.Collections.{GoesAsFar, HasCollected, IsCollectFault};
 
 use crate::client::Client;
-use crate::live::Live;
+use crate::live::{Live, safe_upto};
 use std::sync::Wait;
 use tx_journal::{JournalId, Reply, Request, Seat, Sender};
 use tx_resolve::{Counts, gc};
@@ -18,6 +18,9 @@ use tx_update::Seats;
 #[derive(Clone, Copy, Debug)]
 pub struct Collected {
     pub safe: Ts,
+    /// What held it back, where the safe point is this: the least timestamp at which a client read
+    /// as it looked, or that one kept; none where there was none.
+    pub oldest: Option<Ts>,
     /// Write records, and values that stood apart from them.
     pub dropped: Counts,
 }
@@ -33,14 +36,21 @@ fn collect_by<J: JournalId, S: Sender<Request<J>, Reply<J>>>(
     requires way { IsSender J.bounds S.fits S.sends S.keys_between }
     requires lossless { LosesNothing S.sends }
     ensures kept { IfOk result (λ collected. collected.safe ≤ keep) }
+    ensures far { IfOk result
+        (λ collected. GoesAsFar keep seat.old.events seat.new.events collected.oldest collected.safe) }
     ensures done { IfOk result (λ done. HasCollected J.bounds seat.new.events done.safe done.dropped) }
     ensures err { IfErr result (IsCollectFault seat.new.events) }
     ensures seat { OnlySees seat.old seat.new }
 {
     let now = seat.last();
-    let safe = live.least(keep, now);
+    let oldest = live.oldest();
+    let safe = Ts::new(keep.get().min(safe_upto(&oldest, now).get()));
     let dropped = gc(seat, safe, sender)?;
-    Ok(Collected { safe, dropped })
+    Ok(Collected {
+        safe,
+        oldest,
+        dropped,
+    })
 }
 
 impl<'a, J: JournalId, R: Wait> Client<'a, J, R> {
@@ -84,6 +94,8 @@ impl<'a, J: JournalId, R: Wait> Client<'a, J, R> {
     /// ```
     pub fn collect(&mut self, keep: Ts) -> Result<Collected, Fault>
         ensures kept { IfOk result (λ collected. collected.safe ≤ keep) }
+        ensures far { IfOk result (λ collected. GoesAsFar keep self.old.seats.resolves.events
+            self.new.seats.resolves.events collected.oldest collected.safe) }
         ensures done { IfOk result
             (λ done. HasCollected J.bounds self.new.seats.resolves.events done.safe done.dropped) }
         ensures err { IfErr result (IsCollectFault self.new.seats.resolves.events) }

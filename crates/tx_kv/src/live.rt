@@ -1,6 +1,7 @@
 //! The timestamps at which the clients of a store still read.
 ghost use Rattle.std.specs.Prelude.{◌≡◌, ◌≤◌, IfOk, IfErr};
 ghost use Rattle.tx_journal.specs.Known.{HasDrawn};
+ghost use Rattle.tx_kv.specs.Counters.{safe_upto};
 
 use std::alloc::Global;
 use std::sync::atomic::{AtomicU64, Ordering};
@@ -43,6 +44,17 @@ fn least_of(places: &[AtomicU64], upto: u64) -> u64
         least = least.min(place.load(Ordering::SeqCst));
     }
     least
+}
+
+/// The highest safe point that a collection may take, by the least timestamp at which a client
+/// reads and the last one that was drawn.
+pub(crate) fn safe_upto(oldest: &Option<Ts>, last: Ts) -> Ts
+    ensures { result ≡ safe_upto oldest.now last }
+{
+    match oldest {
+        Some(oldest) => Ts::new(oldest.get().min(last.get())),
+        None => last,
+    }
 }
 
 impl Live {
@@ -108,14 +120,5 @@ impl Live {
         if let Some(least) = self.least.get(client) {
             least.store(NOWHERE, Ordering::SeqCst);
         }
-    }
-
-    /// The least of these two timestamps, and of those at which the clients read or that they keep.
-    pub(crate) fn least(&self, keep: Ts, last: Ts) -> Ts
-        ensures keep { result ≤ keep }
-        ensures last { result ≤ last }
-    {
-        let least = least_of(self.least.as_slice(), keep.get().min(last.get()));
-        Ts::new(least_of(self.pins.as_slice(), least))
     }
 }

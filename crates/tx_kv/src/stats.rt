@@ -6,7 +6,7 @@ ghost use Rattle.tx_kv.specs.Clients.{KeepsTerms};
 ghost use Rattle.tx_kv.specs.Counters.{AddsUp, safe_upto};
 
 use crate::client::Client;
-use crate::live::Live;
+use crate::live::{Live, safe_upto};
 use std::sync::Wait;
 use std::sync::atomic::{AtomicU64, Ordering};
 use tx_journal::JournalId;
@@ -59,16 +59,6 @@ pub(crate) struct Tally {
 // What a counter has.
 fn read(counter: &AtomicU64) -> u64 {
     counter.load(Ordering::SeqCst)
-}
-
-// The highest safe point that a collection may take.
-fn safe_upto(oldest: &Option<Ts>, last: Ts) -> Ts
-    ensures { result ≡ safe_upto oldest.now last }
-{
-    match oldest {
-        Some(oldest) => Ts::new(oldest.get().min(last.get())),
-        None => last,
-    }
 }
 
 impl Tally {

@@ -158,11 +158,13 @@ fn spared<J: JournalId, R: Wait>(client: &mut Client<'_, J, R>) -> Option<(u8, b
     let collected = client.collect(Ts::new(u64::MAX)).ok()?;
     let at = pin.at();
     let stats = client.stats();
-    let held = collected.safe == at && stats.oldest == Some(at) && stats.safe == at;
+    let told = collected.safe == at && collected.oldest == Some(at);
+    let held = told && stats.oldest == Some(at) && stats.safe == at;
     let before = byte_at(client, at).ok()??;
     drop(pin);
     let safe = client.stats().safe;
-    let freed = client.collect(Ts::new(u64::MAX)).ok()?.safe == safe && at < safe;
+    let free = client.collect(Ts::new(u64::MAX)).ok()?;
+    let freed = free.safe == safe && free.oldest.is_none() && at < safe;
     let gone = matches!(byte_at(client, at), Err(Stop::BelowSafePoint));
     Some((before, held && freed, gone))
 }
