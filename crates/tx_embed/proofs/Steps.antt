@@ -81,7 +81,7 @@ module _ (bounds : List Key) (terms : Terms) (old session : Seated) (new : Known
     elim why [
       | inl own ↦ inl own
       | inr wrote ↦ inr (subst (λ (t : Seated). Wrote bounds terms old.state.start old.state.buffer old.seat t.seat)
-            (sym same) wrote)
+          (sym same) wrote)
     ],
   )
 
