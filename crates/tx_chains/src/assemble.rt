@@ -7,7 +7,7 @@ use crate::puts::{Put, list_at, number, put_at};
 use std::alloc::{AllocError, Global};
 use tx_history::{Read, Recorded};
 use tx_recording::{RecordedOp, Recording, Span};
-use tx_verdict::{Home, Lives, NO_SPAN, Question, Versions, value_of};
+use tx_verdict::{Case, Home, Lives, NO_SPAN, Versions, value_of};
 use tx_views::{Effect, RecordedView, effect_of};
 
 // Notes which version the values of a transaction are part of.
@@ -111,13 +111,9 @@ fn read_of(recording: &Recording, homes: &[Home], view: RecordedView) -> Read {
 }
 
 // Adds which version each view is of.
-fn add_reads(
-    versions: &mut Versions,
-    recording: &Recording,
-    views: &[RecordedView],
-) -> Result<(), AllocError> {
-    for i in 0..views.len() {
-        let read = read_of(recording, versions.homes.as_slice(), views[i]);
+fn add_reads(versions: &mut Versions, case: &Case<'_>) -> Result<(), AllocError> {
+    for i in 0..case.views.len() {
+        let read = read_of(case.recording, versions.homes.as_slice(), case.views[i]);
         versions.recorded.reads.push(read)?;
     }
     Ok(())
@@ -160,14 +156,14 @@ const NO_HOME: Home = Home {
 // The versions of the chains of a plan.
 fn assemble(
     alloc: Global,
-    recording: &Recording,
-    views: &[RecordedView],
+    case: &Case<'_>,
     puts: &[Put],
     lives: &Lives,
     plan: &ChainPlan,
 ) -> Result<Versions, AllocError>
-    requires { IsRecording recording.now }
+    requires { IsRecording case.now.recording.now }
 {
+    let recording = case.recording;
     let mut versions = no_versions(alloc, recording, lives, plan.names.clone()?)?;
     for chain in 0..plan.names.len() {
         let members = members_of(plan, chain);
@@ -180,7 +176,7 @@ fn assemble(
             number(chain),
         )?;
     }
-    add_reads(&mut versions, recording, views)?;
+    add_reads(&mut versions, case)?;
     Ok(versions)
 }
 
@@ -188,16 +184,14 @@ fn assemble(
 /// for, and where serializability is.
 pub fn versions_of(
     alloc: Global,
-    recording: &Recording,
-    views: &[RecordedView],
-    question: Question,
+    case: &Case<'_>,
     lives: &Lives,
     puts: &[Put],
     plan: &ChainPlan,
 ) -> Result<Versions, AllocError>
-    requires { IsRecording recording.now }
+    requires { IsRecording case.now.recording.now }
 {
-    let mut versions = assemble(alloc, recording, views, puts, lives, plan)?;
-    add_orders(alloc, &mut versions, recording, question)?;
+    let mut versions = assemble(alloc, case, puts, lives, plan)?;
+    add_orders(alloc, &mut versions, case.recording, case.question)?;
     Ok(versions)
 }

@@ -4,7 +4,7 @@ use crate::plan::{ChainPlan, Chains, Follows, end_chain, take_from, take_list, t
 use crate::puts::{Put, Puts, list_at, number, put_at};
 use std::alloc::{AllocError, Global};
 use tx_recording::Recording;
-use tx_views::RecordedView;
+use tx_verdict::Case;
 
 /// What chains are made of.
 #[derive(Drop)]
@@ -44,15 +44,14 @@ fn first_in(first: &[Option<u32>], key: u32) -> Option<u32> {
 // Takes what is known of the order of a key.
 fn take_key(
     chains: &mut Chains,
-    recording: &Recording,
-    views: &[RecordedView],
+    case: &Case<'_>,
     parts: &ChainParts,
     key: u32,
 ) -> Result<(), AllocError> {
     let before = chains.plan.members.len();
     if let Some(Some(view)) = parts.longest.get(key as usize) {
-        if (*view as usize) < views.len() {
-            let list = list_at(recording, views[*view as usize].span);
+        if (*view as usize) < case.views.len() {
+            let list = list_at(case.recording, case.views[*view as usize].span);
             let by_value = parts.puts.by_value.as_slice();
             take_list(chains, by_value, list, *view)?;
         }
@@ -197,14 +196,13 @@ fn take_asked(
 // Takes the chain of each key: with the put that is left, else with the extras that are asked for.
 fn take_keys(
     chains: &mut Chains,
-    recording: &Recording,
-    views: &[RecordedView],
+    case: &Case<'_>,
     parts: &ChainParts,
     extras: &Extras,
     asked: Asked,
 ) -> Result<(), AllocError> {
-    for key in 0..recording.keys {
-        take_key(chains, recording, views, parts, key)?;
+    for key in 0..case.recording.keys {
+        take_key(chains, case, parts, key)?;
         if let Some(left) = extras.left_of(key) {
             take_put(chains, parts.puts.all.as_slice(), left)?;
         } else {
@@ -241,15 +239,10 @@ fn take_rest(chains: &mut Chains, puts: &[Put]) -> Result<(), AllocError> {
 }
 
 // Takes what is known of the order of each key. What was taken.
-fn known_puts(
-    alloc: Global,
-    recording: &Recording,
-    views: &[RecordedView],
-    parts: &ChainParts,
-) -> Result<Chains, AllocError> {
+fn known_puts(alloc: Global, case: &Case<'_>, parts: &ChainParts) -> Result<Chains, AllocError> {
     let mut chains = Chains::new(alloc, parts.puts.all.len())?;
-    for key in 0..recording.keys {
-        take_key(&mut chains, recording, views, parts, key)?;
+    for key in 0..case.recording.keys {
+        take_key(&mut chains, case, parts, key)?;
     }
     Ok(chains)
 }
@@ -258,13 +251,13 @@ fn known_puts(
 /// come first. Where one lacks what may come in two orders, this has chains of its own.
 pub fn plan_of(
     alloc: Global,
-    recording: &Recording,
-    views: &[RecordedView],
+    case: &Case<'_>,
     parts: &ChainParts,
     order: &[u32],
     asked: Asked,
 ) -> Result<(ChainPlan, Extras), AllocError> {
-    let mut known = known_puts(alloc, recording, views, parts)?;
+    let recording = case.recording;
+    let mut known = known_puts(alloc, case, parts)?;
     let puts = parts.puts.all.as_slice();
     let mut extras = extras_of(alloc, recording, puts, known.used.as_slice(), order)?;
     for key in 0..recording.keys {
@@ -272,7 +265,7 @@ pub fn plan_of(
     }
     note_left(&mut extras, puts, known.used.as_slice());
     let mut chains = Chains::new(alloc, puts.len())?;
-    take_keys(&mut chains, recording, views, parts, &extras, asked)?;
+    take_keys(&mut chains, case, parts, &extras, asked)?;
     take_open(&mut chains, recording, parts, &extras)?;
     take_rest(&mut chains, puts)?;
     Ok((chains.plan, extras))

@@ -3,9 +3,7 @@
 use crate::chains::ChainParts;
 use crate::puts::{Put, list_at, number, put_at};
 use std::alloc::{AllocError, Global};
-use tx_recording::Recording;
-use tx_verdict::{Base, LostUpdate};
-use tx_views::RecordedView;
+use tx_verdict::{Base, Case, LostUpdate};
 
 /// Chains of what was put: each of a key, one version after the other.
 #[derive(Drop)]
@@ -102,29 +100,24 @@ fn view_in(puts: &[Put], put: u32) -> Option<u32> {
 }
 
 // The values that a put saw, and their view.
-fn seen_by<'a>(recording: &'a Recording, views: &[RecordedView], put: Put) -> Option<&'a [u32]> {
+fn seen_by<'a>(case: &Case<'a>, put: Put) -> Option<&'a [u32]> {
     let place = put.view? as usize;
-    if place >= views.len() {
+    if place >= case.views.len() {
         return None;
     }
-    Some(list_at(recording, views[place].span))
+    Some(list_at(case.recording, case.views[place].span))
 }
 
 /// Which put follows which, by what they saw.
-pub fn follows_of(
-    alloc: Global,
-    recording: &Recording,
-    views: &[RecordedView],
-    puts: &[Put],
-) -> Result<Follows, AllocError> {
+pub fn follows_of(alloc: Global, case: &Case<'_>, puts: &[Put]) -> Result<Follows, AllocError> {
     let mut follows = Follows {
-        first: vec![in alloc; None; recording.keys as usize]?,
-        next: vec![in alloc; None; recording.values as usize]?,
+        first: vec![in alloc; None; case.recording.keys as usize]?,
+        next: vec![in alloc; None; case.recording.values as usize]?,
         lost: None,
     };
     for place in 0..puts.len() {
         let put = puts[place];
-        let Some(list) = seen_by(recording, views, put) else {
+        let Some(list) = seen_by(case, put) else {
             continue;
         };
         let old = note_put(&mut follows, list, put.key, number(place));

@@ -3,8 +3,8 @@ ghost use Rattle.tx_recording.specs.Recordings.{IsRecording};
 
 use std::alloc::{AllocError, Global};
 use tx_recording::{RecordedOp, RecordedOutcome, Recording, Span};
-use tx_verdict::{Lives, Shown, value_of};
-use tx_views::{Owner, RecordedView};
+use tx_verdict::{Case, Lives, Shown, value_of};
+use tx_views::RecordedView;
 
 /// That a transaction put values into a key.
 #[derive(Clone, Copy)]
@@ -52,18 +52,12 @@ pub fn put_at<T: Copy + Drop>(items: &mut [T], place: usize, item: T) {
 }
 
 // Marks who put the values of a list as live where nobody knows.
-fn show(
-    lives: &mut Lives,
-    recording: &Recording,
-    owners: &[Option<Owner>],
-    list: &[u32],
-    view: u32,
-) {
+fn show(lives: &mut Lives, case: &Case<'_>, list: &[u32], view: u32) {
     for place in 0..list.len() {
-        let Some(Some(owner)) = owners.get(list[place] as usize) else {
+        let Some(Some(owner)) = case.owners.get(list[place] as usize) else {
             continue;
         };
-        let Some(transaction) = recording.transactions.get(owner.txn as usize) else {
+        let Some(transaction) = case.recording.transactions.get(owner.txn as usize) else {
             continue;
         };
         if transaction.outcome == RecordedOutcome::Info {
@@ -89,21 +83,11 @@ fn committed(alloc: Global, recording: &Recording) -> Result<Lives, AllocError> 
 }
 
 /// Which transactions committed: those that are known to have, and those of which a value was seen.
-pub fn lives_of(
-    alloc: Global,
-    recording: &Recording,
-    owners: &[Option<Owner>],
-    views: &[RecordedView],
-) -> Result<Lives, AllocError> {
-    let mut lives = committed(alloc, recording)?;
-    for i in 0..views.len() {
-        show(
-            &mut lives,
-            recording,
-            owners,
-            list_at(recording, views[i].span),
-            number(i),
-        );
+pub fn lives_of(alloc: Global, case: &Case<'_>) -> Result<Lives, AllocError> {
+    let mut lives = committed(alloc, case.recording)?;
+    for i in 0..case.views.len() {
+        let list = list_at(case.recording, case.views[i].span);
+        show(&mut lives, case, list, number(i));
     }
     Ok(lives)
 }
@@ -208,14 +192,10 @@ fn note_views(marks: &mut Marks, views: &[RecordedView], txn: u32, from: usize) 
 }
 
 /// What the live transactions put, in their order.
-pub fn puts_of(
-    alloc: Global,
-    recording: &Recording,
-    views: &[RecordedView],
-    live: &[bool],
-) -> Result<Puts, AllocError>
-    requires { IsRecording recording.now }
+pub fn puts_of(alloc: Global, case: &Case<'_>, live: &[bool]) -> Result<Puts, AllocError>
+    requires { IsRecording case.now.recording.now }
 {
+    let (recording, views) = (case.recording, case.views);
     let mut puts = Puts {
         all: Vec::new(alloc),
         by_value: vec![in alloc; None; recording.values as usize]?,

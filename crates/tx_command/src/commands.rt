@@ -238,6 +238,7 @@ fn workers<'a>(alloc: Global) -> Arg<'a> {
         .value_name("N")
         .help("How many threads make steps, 1 to 64")
         .required(true)
+        .allow_negative_numbers(true)
         .value_parser(ValueParser::Unsigned(1, MAX_WORKERS as u64))
 }
 
@@ -247,6 +248,7 @@ fn life_time<'a>(alloc: Global) -> Arg<'a> {
         .long("gc-life-time")
         .value_name("TICKS")
         .help("Collects meanwhile what is out of date for so many ticks; else nothing")
+        .allow_negative_numbers(true)
         .value_parser(ValueParser::Unsigned(1, MAX_LIFE_TIME))
 }
 
@@ -281,6 +283,7 @@ fn refusals<'a>(alloc: Global) -> Result<Command<'a>, AllocError> {
     let refusal = Arg::new(alloc, "refusal")
         .value_name("REFUSAL")
         .help("The one to tell of; nothing is all")
+        .ignore_case(true)
         .value_parser(ValueParser::Names(&REFUSAL_NAMES));
     Command::new(alloc, "refusals")
         .about(help::REFUSALS_ABOUT)

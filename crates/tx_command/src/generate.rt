@@ -32,6 +32,7 @@ fn number<'a>(alloc: Global, name: &'a str, least: u64, most: u64) -> Arg<'a> {
     Arg::new(alloc, name)
         .long(name)
         .value_name("N")
+        .allow_negative_numbers(true)
         .value_parser(ValueParser::Unsigned(least, most))
 }
 

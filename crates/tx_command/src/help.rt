@@ -11,7 +11,7 @@ pub(crate) static EXAMPLES: &str = "Examples:
   txkv check lost_update.trace        Check a trace of machine steps
   txkv import read_committed.history  Judge a history of any store
   txkv example push.script            Print an example, as those named here
-  txkv help begin                     Tell what a step or a refusal is
+  txkv help begin                     Tell of a step, a delivery, a refusal
   txkv simulate --help                Show the steps of a script
 
 Exit status:
@@ -54,7 +54,12 @@ delivery:
   ["tick",n]                     Draws n ticks
   ["versions",key]               Shows what stands on a key: its lock, its write
                                  records, its long values
-A delivery is nothing, or "lose", "lose-reply", "repeat", or "hold",name
+A delivery is nothing, or says what becomes of the request:
+  "lose"                         It never arrives
+  "lose-reply"                   It is taken, and its session hears nothing
+  "repeat"                       It is taken twice, and the second reply heard
+  "hold",name                    It is kept under a name, and not taken, until
+                                 that is delivered
 
 Each reply is the number of the line and the step's words; docs/SCRIPT.md has
 all replies, refusals and causes.

@@ -100,6 +100,7 @@ fn budget<'a>(alloc: Global) -> Arg<'a> {
         .long("budget")
         .value_name("N")
         .help("How many circles a search for an order may meet, 20000 unless told, some seconds")
+        .allow_negative_numbers(true)
         .value_parser(ValueParser::Unsigned(0, MAX_BUDGET))
 }
 

@@ -59,6 +59,7 @@ fn line_number<'a>(alloc: Global, name: &'a str, help: &'a str) -> Arg<'a> {
         .long(name)
         .value_name("N")
         .help(help)
+        .allow_negative_numbers(true)
         .value_parser(ValueParser::Unsigned(1, MAX_LINES))
 }
 
@@ -75,7 +76,10 @@ fn width<'a>(alloc: Global) -> Result<Arg<'a>, AllocError> {
     Arg::new(alloc, "width")
         .long("width")
         .value_name("N")
-        .help("How many places a line of text has, 40 or more; as many as it takes unless told")
+        .help(
+            "How many places a line of text has, 40 or more; unless told, what a terminal has, or it takes",
+        )
+        .allow_negative_numbers(true)
         .value_parser(ValueParser::Unsigned(LEAST_WIDTH, MOST_WIDTH))
         .conflicts_with("svg")
 }

@@ -47,10 +47,12 @@ impl Display for Stats {
             "txkv: {} committed, {} aborted, {} unknown, {} read-only",
             self.committed, self.aborted, self.unknown, self.read_only
         )?;
-        writeln!(f, "txkv: {} write records collected", self.collected)?;
+        let end = if self.collected == 1 { "" } else { "s" };
+        writeln!(f, "txkv: {} write record{end} collected", self.collected)?;
         let (seconds, millis) = (self.elapsed.as_secs(), self.elapsed.subsec_millis());
         write!(f, "txkv: {seconds}.{millis:03} seconds")?;
         match self.transfers_a_second() {
+            Some(1) => writeln!(f, ", 1 transfer a second"),
             Some(rate) => writeln!(f, ", {rate} transfers a second"),
             None => writeln!(f),
         }

@@ -18,7 +18,7 @@ pub enum CommandEnd {
 }
 
 impl CommandEnd {
-    /// That of a text.
+    /// How a command ends whose text was played or checked to this end.
     pub fn of(end: End) -> CommandEnd
         ensures { result ≡ command_end end }
     {

@@ -1,7 +1,7 @@
 //! A command line, read: what it asks for, or what is shown in its place.
 use crate::commands::program;
 use crate::samples::{SAMPLES, text_of_sample};
-use crate::topics::topic;
+use crate::topics::{topic, topic_words};
 use clap::error::ErrorKind;
 use clap::{ArgMatches, Command, Error};
 use std::alloc::{AllocError, Global};
@@ -146,6 +146,12 @@ fn list_of_samples(alloc: Global) -> Result<String, AllocError> {
     Ok(text)
 }
 
+// What completes command lines in a shell.
+fn completions(alloc: Global, shell: Shell) -> Result<String, AllocError> {
+    let words = topic_words(alloc)?;
+    tx_hints::completions(alloc, &program(alloc)?, words.as_slice(), shell)
+}
+
 // What a command shows that does nothing else: the table of refusals, an example, what completes
 // command lines.
 fn text_of(alloc: Global, matches: &ArgMatches<'_>, width: usize) -> Result<Option<Error>, Error> {
@@ -165,7 +171,7 @@ fn text_of(alloc: Global, matches: &ArgMatches<'_>, width: usize) -> Result<Opti
             }
         },
         Some(("completions", asked)) => {
-            let text = tx_hints::completions(alloc, &program(alloc)?, shell_of(asked))?;
+            let text = completions(alloc, shell_of(asked))?;
             Ok(Some(text_alone(alloc, text.as_str())))
         }
         _ => Ok(None),

@@ -99,7 +99,7 @@ each a JSON array:
 ";
 
 // Requests for help, how the text begins, and how it ends.
-static HELPS: [(&str, &str, &str); 19] = [
+static HELPS: [(&str, &str, &str); 26] = [
     (
         "--help",
         TOP,
@@ -142,6 +142,33 @@ static HELPS: [(&str, &str, &str); 19] = [
     ),
     ("refusals E5", E5, E5),
     ("help E5", E5, E5),
+    ("help e5", E5, E5),
+    ("refusals e5", E5, E5),
+    (
+        "help lose",
+        "  \"lose\"                         It never arrives\n",
+        "\n",
+    ),
+    (
+        "help hold",
+        "  \"hold\",name                    It is kept under a name, and not taken, until\n",
+        "                                 that is delivered\n",
+    ),
+    (
+        "help two-phase",
+        "  [\"declare\",s,\"two-phase\",ttl]  Fixes its write set; its locks live ttl ticks\n",
+        "\n",
+    ),
+    (
+        "help transfer",
+        "  [\"transfer\",s,from,to,n,mode]   Moves the amount n",
+        "in one transaction\n",
+    ),
+    (
+        "help append",
+        "  [\"append\",key,value]  It put the value behind those of the key's list\n",
+        "\n",
+    ),
     (
         "help insert",
         "  [\"insert\",s,key,value]         Enters a put of a key that must have no value;\n",
@@ -170,8 +197,7 @@ static HELPS: [(&str, &str, &str); 19] = [
     (
         "completions fish",
         "complete -c txkv -n __fish_use_subcommand -f -a simulate -d 'Run a script of sessions,",
-        "complete -c txkv -n '__fish_seen_subcommand_from completions' -x -a ' bash zsh \
-        fish' -d 'The shell: bash, zsh or fish'\n",
+        " E15 E16 E17'\n",
     ),
 ];
 

@@ -3,12 +3,12 @@ use crate::command_lines::words_of;
 use clap::error::ErrorKind;
 use std::alloc::Global;
 use std::test::Fail;
-use tx_command::{USUAL_WIDTH, parse};
+use tx_command::{USUAL_WIDTH, fault_text, parse};
 
 const TRY_HELP: &str = "\n\nFor more information, try '--help'.\n";
 
 // Faults of the command line, and what is told of them before that last line.
-static FAULTS: [(&str, &str); 22] = [
+static FAULTS: [(&str, &str); 24] = [
     (
         "",
         "error: 'txkv' requires a subcommand but one was not provided\n  [subcommands: simulate, \
@@ -72,6 +72,14 @@ static FAULTS: [(&str, &str); 22] = [
     (
         "run --workers 0",
         "error: invalid value '0' for '--workers <N>': 0 is not in 1..=64",
+    ),
+    (
+        "run --workers -1",
+        "error: invalid value '-1' for '--workers <N>': invalid digit found in string",
+    ),
+    (
+        "generate --seed -1",
+        "error: invalid value '-1' for '--seed <N>': invalid digit found in string",
     ),
     (
         "run --workers 65",
@@ -141,6 +149,51 @@ fn faults_of_the_command_line_are_told(rt: HostRuntime) -> Result<(), Fail> {
     for (line, text) in FAULTS {
         let is_fault = is_fault(rt.alloc(), line, text)?;
         assert!(rt; is_fault, "{line}");
+    }
+    Ok(())
+}
+
+// Command lines with an option that is none of their command, and what is told of them.
+static TIPS: [(&str, &str); 4] = [
+    (
+        "explain --check",
+        "error: unexpected argument '--check' found\n\n  tip: '--check' is an option of txkv \
+        simulate\n\nUsage: txkv explain [OPTIONS] [FILE]",
+    ),
+    (
+        "check --cells a",
+        "error: unexpected argument '--cells' found\n\n  tip: '--cells' is an option of txkv \
+        simulate, txkv explain, txkv run\n\nUsage: txkv check [OPTIONS] [FILE]",
+    ),
+    (
+        "check --frob",
+        "error: unexpected argument '--frob' found\n\n  tip: '--frob' as the name of a file is \
+        '-- --frob'\n\nUsage: txkv check [OPTIONS] [FILE]",
+    ),
+    (
+        "simulate --chek",
+        "error: unexpected argument '--chek' found\n\n  tip: a similar argument exists: \
+        '--check'\n\nUsage: txkv simulate --check [FILE]",
+    ),
+];
+
+// Whether just this is told of a command line, before the last line.
+fn is_told(alloc: Global, line: &str, text: &str) -> Result<bool, Fail> {
+    let words = words_of(alloc, line)?;
+    match parse(alloc, words.as_slice(), USUAL_WIDTH) {
+        Ok(_) => Ok(false),
+        Err(error) => {
+            let told = fault_text(alloc, &error)?;
+            Ok(told.strip_suffix(TRY_HELP) == Some(text))
+        }
+    }
+}
+
+#[test]
+fn options_of_other_commands_are_told(rt: HostRuntime) -> Result<(), Fail> {
+    for (line, text) in TIPS {
+        let is_told = is_told(rt.alloc(), line, text)?;
+        assert!(rt; is_told, "{line}");
     }
     Ok(())
 }

@@ -34,7 +34,7 @@ static OTHERS: [(InputKind, &str, Cause, &str); 18] = [
         InputKind::History,
         r#"{"type":"ok","ops":[]}"#,
         Cause::Form,
-        "form: the transaction does not go with those before it",
+        "form: the history is at fault here, as is told above",
     ),
     (
         InputKind::Run,

@@ -2,11 +2,11 @@
 //! over, kept, or never declared.
 use std::alloc::Global;
 use std::cell::RefCell;
-use std::io::Read;
+use std::io::{Read, Write};
 use std::test::Fail;
-use tx_hints::{escaped, escaped_lines, places_of, wrapped};
+use tx_hints::{escaped, escaped_lines, escaped_output, places_of, wrapped};
 use tx_sentences::{InputKind, Place, note_undeclared, reason, step_typed, undeclared_at};
-use tx_streams::{Comments, Copied, Dropped, NotedFaults, first_lines};
+use tx_streams::{Comments, Copied, Dropped, Escaping, NotedFaults, first_lines};
 use tx_types::Cause;
 
 // Whether each character of a text is seen at a terminal.
@@ -59,6 +59,37 @@ fn only_what_is_not_seen_is_escaped(rt: HostRuntime) -> Result<(), Fail> {
     );
     let told = escaped_lines(rt.alloc(), "a\u{7f}\nb")?;
     assert_eq!(rt; told.as_str(), "a\\u007f\nb\n");
+    let shown = escaped_output(rt.alloc(), "[\"\u{9b}\",\t\"é\u{200f}\"]\r\n[")?;
+    assert_eq!(rt; shown.as_str(), "[\"\\u009b\",\t\"é\\u200f\"]\\r\n[");
+    Ok(())
+}
+
+// What comes of a text that is written so many bytes at a time, where that goes to a terminal, or
+// not.
+fn written(alloc: Global, text: &[u8], most: usize, is_terminal: bool) -> Result<Vec<u8>, Fail> {
+    let mut out = Vec::new(alloc);
+    let mut writer = Escaping::new(alloc, &mut out, is_terminal);
+    for part in text.chunks(most) {
+        writer.write_all(part)?;
+    }
+    writer.flush()?;
+    drop(writer);
+    Ok(out)
+}
+
+#[test]
+fn what_goes_to_a_terminal_is_safe(rt: HostRuntime) -> Result<(), Fail> {
+    let text = "[1,\"value\",\"\u{1b}[2J\u{7f}\u{9b}é字\u{202e}\u{1f600}\u{e0001}\"]\n".as_bytes();
+    let shown =
+        "[1,\"value\",\"\\u001b[2J\\u007f\\u009bé字\\u202e\u{1f600}\\udb40\\udc01\"]\n".as_bytes();
+    for most in 1..=text.len() {
+        let at_terminal = written(rt.alloc(), text, most, true)?;
+        let elsewhere = written(rt.alloc(), text, most, false)?;
+        let is_safe = at_terminal.as_slice() == shown && elsewhere.as_slice() == text;
+        assert!(rt; is_safe, "{most} bytes at a time");
+    }
+    let broken = written(rt.alloc(), b"a\xc3\n\xe5\xad\n\xff", 2, true)?;
+    assert_eq!(rt; broken.as_slice(), "a\u{fffd}\n\u{fffd}\n".as_bytes());
     Ok(())
 }
 

@@ -36,6 +36,17 @@ fn put_escape(out: &mut String, character: char) -> Result<(), AllocError> {
     put_unit(out, 56320 + above % 1024)
 }
 
+// Appends a character as it is, or as JSON escapes it where it takes no place.
+fn put_seen(out: &mut String, character: char) -> Result<(), AllocError> {
+    match character {
+        '\n' => out.push_str("\\n"),
+        '\r' => out.push_str("\\r"),
+        '\t' => out.push_str("\\t"),
+        _ if places_of(character) == 0 => put_escape(out, character),
+        _ => out.push(character),
+    }
+}
+
 /// A text as it is told: one line in which every character is seen. One that takes no place at a
 /// terminal, and so might do something else there, is written as JSON escapes it: control
 /// characters, ends of lines among them, and what turns the direction of a text. All else stands as
@@ -43,12 +54,19 @@ fn put_escape(out: &mut String, character: char) -> Result<(), AllocError> {
 pub fn escaped(alloc: Global, text: &str) -> Result<String, AllocError> {
     let mut out = String::new(alloc);
     'characters: for character in text.chars() {
+        put_seen(&mut out, character)?;
+    }
+    Ok(out)
+}
+
+/// A part of an output as a terminal is to show it: the same, but that ends of lines and tabs stay.
+/// In JSON, where only strings have such characters, it means the same.
+pub fn escaped_output(alloc: Global, text: &str) -> Result<String, AllocError> {
+    let mut out = String::new(alloc);
+    'characters: for character in text.chars() {
         match character {
-            '\n' => out.push_str("\\n")?,
-            '\r' => out.push_str("\\r")?,
-            '\t' => out.push_str("\\t")?,
-            _ if places_of(character) == 0 => put_escape(&mut out, character)?,
-            _ => out.push(character)?,
+            '\n' | '\t' => out.push(character)?,
+            _ => put_seen(&mut out, character)?,
         }
     }
     Ok(out)

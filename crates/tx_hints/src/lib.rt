@@ -9,7 +9,7 @@ mod near;
 mod shells;
 mod wrap;
 
-pub use escape::{escaped, escaped_lines, places_of};
+pub use escape::{escaped, escaped_lines, escaped_output, places_of};
 pub use json::wrong_json;
 pub use near::meant;
 pub use shells::{Shell, completions};

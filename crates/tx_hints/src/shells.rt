@@ -58,12 +58,22 @@ fn has_value(arg: &Arg<'_>) -> bool {
     !matches!(arg.get_action(), ArgAction::SetTrue)
 }
 
+// Whether what stands behind its options is the name of a file, which a shell completes by itself.
+fn takes_file(command: &Command<'_>) -> bool {
+    'arguments: for arg in command.get_arguments() {
+        if arg.get_long().is_none() && !has_words(arg) {
+            return true;
+        }
+    }
+    false
+}
+
 // Appends the names of the commands.
 fn put_commands(out: &mut String, program: &Command<'_>) -> Result<(), AllocError> {
     'commands: for command in program.get_subcommands() {
         put(out, &[" ", command.get_name()])?;
     }
-    out.push_str(" help --help --version")
+    Ok(())
 }
 
 // Appends the options of a command.
@@ -99,18 +109,35 @@ fn put_command(out: &mut String, command: &Command<'_>) -> Result<(), AllocError
     'options: for arg in command.get_arguments() {
         put_value(out, command, arg)?;
     }
-    out.push_str("        *) words='")?;
+    if takes_file(command) {
+        out.push_str("        *) [[ $word != -* ]] || words='")?;
+    } else {
+        out.push_str("        *) words='")?;
+    }
     put_options(out, command)?;
     out.push_str("' ;;\n        esac ;;\n")
 }
 
+// Appends for bash what may stand behind `help`: a command, or one of these topics.
+fn put_help(out: &mut String, program: &Command<'_>, topics: &[&str]) -> Result<(), AllocError> {
+    out.push_str("    2:help) words='")?;
+    put_commands(out, program)?;
+    put_words(out, topics)?;
+    out.push_str("' ;;\n")
+}
+
 // Appends a function that bash completes by, and zsh as bash does.
-fn put_function(out: &mut String, program: &Command<'_>) -> Result<(), AllocError> {
+fn put_function(
+    out: &mut String,
+    program: &Command<'_>,
+    topics: &[&str],
+) -> Result<(), AllocError> {
     out.push_str("_txkv_words() {\n    local word=${COMP_WORDS[COMP_CWORD]} words=\n")?;
     out.push_str("    local last=${COMP_WORDS[COMP_CWORD-1]}\n")?;
     out.push_str("    case $COMP_CWORD:${COMP_WORDS[1]} in\n    1:*) words='")?;
     put_commands(out, program)?;
-    out.push_str("' ;;\n")?;
+    out.push_str(" help --help --version' ;;\n")?;
+    put_help(out, program, topics)?;
     'commands: for command in program.get_subcommands() {
         put_command(out, command)?;
     }
@@ -169,29 +196,35 @@ fn put_fish_command(out: &mut String, command: &Command<'_>) -> Result<(), Alloc
     Ok(())
 }
 
-fn put_fish(out: &mut String, program: &Command<'_>) -> Result<(), AllocError> {
+fn put_fish(out: &mut String, program: &Command<'_>, topics: &[&str]) -> Result<(), AllocError> {
     'commands: for command in program.get_subcommands() {
         put_fish_command(out, command)?;
     }
-    Ok(())
+    out.push_str("complete -c txkv -n __fish_use_subcommand -f -a help -d 'Tell of a word'\n")?;
+    out.push_str("complete -c txkv -n '__fish_seen_subcommand_from help' -f -a '")?;
+    put_commands(out, program)?;
+    put_words(out, topics)?;
+    out.push_str("'\n")
 }
 
 /// What completes the command lines of a program called `txkv` in a shell, as a text that it reads:
-/// the commands, their options, and the words that a value may be where they are a few. Names of
-/// files are completed as the shell does by itself. Refused where a growth is.
+/// the commands, their options, the words that a value may be where they are a few, and behind
+/// `help` the commands and these topics. Names of files are completed as the shell does by itself.
+/// Refused where a growth is.
 pub fn completions(
     alloc: Global,
     program: &Command<'_>,
+    topics: &[&str],
     shell: Shell,
 ) -> Result<String, AllocError> {
     let mut out = String::new(alloc);
     match shell {
-        Shell::Bash => put_function(&mut out, program)?,
+        Shell::Bash => put_function(&mut out, program, topics)?,
         Shell::Zsh => {
             out.push_str("#compdef txkv\nautoload -U +X bashcompinit && bashcompinit\n")?;
-            put_function(&mut out, program)?;
+            put_function(&mut out, program, topics)?;
         }
-        Shell::Fish => put_fish(&mut out, program)?,
+        Shell::Fish => put_fish(&mut out, program, topics)?,
     }
     Ok(out)
 }

@@ -1,41 +1,33 @@
 //! What the versions in one order are for the recording.
 ghost use Rattle.std.specs.Prelude.{IfOk, IfSome, slice_index};
-ghost use Rattle.tx_recording.specs.Recordings.{IsRecording};
-ghost use Rattle.tx_views.specs.Views.{AreViews};
-ghost use Rattle.tx_views.specs.Owners.{AreOwners};
 ghost use Rattle.tx_history.specs.Records.{IsRecorded, history_of};
 ghost use Rattle.tx_history.specs.Histories.{IsAssignment};
 ghost use Rattle.tx_history.specs.Graph.{IsCycleOf};
+ghost use Rattle.tx_verdict.specs.Cases.{IsWhole};
 ghost use Rattle.tx_verdict.specs.Verdicts.{IsVerdict};
 
 use std::alloc::{AllocError, Global};
 use tx_chains::{Asked, ChainParts, number, plan_of, versions_of};
 use tx_history::{After, HistoryDecision, decide};
-use tx_recording::Recording;
 use tx_verdict::{
-    HistoryVerdict, Level, Lives, Question, Refutation, Versions, cycle_of, is_refutation,
-    timestamps,
+    Case, HistoryVerdict, Level, Lives, Refutation, Versions, cycle_of, is_refutation, timestamps,
 };
-use tx_views::{Owner, RecordedView};
 
 // What timestamps of versions are for the recording.
 fn yes_of(
     alloc: Global,
-    recording: &Recording,
-    views: &[RecordedView],
-    question: Question,
+    case: &Case<'_>,
     versions: Versions,
     starts: Vec<usize>,
     commits: Vec<usize>,
 ) -> Result<Option<HistoryVerdict>, AllocError>
-    requires recording { IsRecording recording.now }
-    requires views { AreViews recording.now views.now }
+    requires case { IsWhole case.now }
     requires history { IsRecorded versions.recorded }
     requires assigned { IsAssignment (history_of versions.recorded) (slice_index starts.items)
         (slice_index commits.items) }
-    ensures { IfOk result (λ found. IfSome found (IsVerdict recording.now question)) }
+    ensures { IfOk result (λ found. IfSome found (IsVerdict case.now.recording.now case.now.question)) }
 {
-    match timestamps(alloc, recording, views, question, versions, starts, commits)? {
+    match timestamps(alloc, case, versions, starts, commits)? {
         Some(found) => Ok(Some(HistoryVerdict::Yes(found))),
         None => Ok(None),
     }
@@ -61,24 +53,19 @@ fn add_turns(alloc: Global, versions: &mut Versions, starts: &[usize]) -> Result
 // the transactions come one after the other in the order of their starts.
 fn yes_in_turn(
     alloc: Global,
-    recording: &Recording,
-    views: &[RecordedView],
-    question: Question,
+    case: &Case<'_>,
     mut versions: Versions,
     starts: Vec<usize>,
 ) -> Result<Option<HistoryVerdict>, AllocError>
-    requires recording { IsRecording recording.now }
-    requires views { AreViews recording.now views.now }
-    ensures { IfOk result (λ found. IfSome found (IsVerdict recording.now question)) }
+    requires case { IsWhole case.now }
+    ensures { IfOk result (λ found. IfSome found (IsVerdict case.now.recording.now case.now.question)) }
 {
     add_turns(alloc, &mut versions, starts.as_slice())?;
     if !versions.recorded.is_history() {
         return Ok(None);
     }
     match decide(alloc, &versions.recorded)? {
-        HistoryDecision::Yes(starts, commits) => {
-            yes_of(alloc, recording, views, question, versions, starts, commits)
-        }
+        HistoryDecision::Yes(starts, commits) => yes_of(alloc, case, versions, starts, commits),
         HistoryDecision::No(_) => Ok(None),
     }
 }
@@ -86,44 +73,36 @@ fn yes_in_turn(
 // What timestamps of versions are for the recording, at the level that is asked for.
 fn yes_at(
     alloc: Global,
-    recording: &Recording,
-    views: &[RecordedView],
-    question: Question,
+    case: &Case<'_>,
     versions: Versions,
     starts: Vec<usize>,
     commits: Vec<usize>,
 ) -> Result<Option<HistoryVerdict>, AllocError>
-    requires recording { IsRecording recording.now }
-    requires views { AreViews recording.now views.now }
+    requires case { IsWhole case.now }
     requires history { IsRecorded versions.recorded }
     requires assigned { IsAssignment (history_of versions.recorded) (slice_index starts.items)
         (slice_index commits.items) }
-    ensures { IfOk result (λ found. IfSome found (IsVerdict recording.now question)) }
+    ensures { IfOk result (λ found. IfSome found (IsVerdict case.now.recording.now case.now.question)) }
 {
-    match question.level {
-        Level::Snapshot => yes_of(alloc, recording, views, question, versions, starts, commits),
-        Level::Serializable => yes_in_turn(alloc, recording, views, question, versions, starts),
+    match case.question.level {
+        Level::Snapshot => yes_of(alloc, case, versions, starts, commits),
+        Level::Serializable => yes_in_turn(alloc, case, versions, starts),
     }
 }
 
 // What a cycle of versions is for the recording.
 fn no_of(
     alloc: Global,
-    recording: &Recording,
-    owners: &[Option<Owner>],
-    views: &[RecordedView],
-    question: Question,
+    case: &Case<'_>,
     versions: &Versions,
     nodes: &[u32],
 ) -> Result<Option<HistoryVerdict>, AllocError>
-    requires recording { IsRecording recording.now }
-    requires owners { AreOwners recording.now owners.now }
-    requires views { AreViews recording.now views.now }
+    requires case { IsWhole case.now }
     requires history { IsRecorded versions.now.recorded }
     requires cycle { IsCycleOf (history_of versions.now.recorded) nodes.now }
-    ensures { IfOk result (λ found. IfSome found (IsVerdict recording.now question)) }
+    ensures { IfOk result (λ found. IfSome found (IsVerdict case.now.recording.now case.now.question)) }
 {
-    match cycle_of(alloc, recording, owners, views, question, versions, nodes)? {
+    match cycle_of(alloc, case, versions, nodes)? {
         Some(cycle) => Ok(Some(HistoryVerdict::No(cycle))),
         None => Ok(None),
     }
@@ -132,30 +111,17 @@ fn no_of(
 /// What a refutation is for the recording, if it is one.
 pub(crate) fn refuted_by(
     alloc: Global,
-    recording: &Recording,
-    owners: &[Option<Owner>],
-    views: &[RecordedView],
-    question: Question,
+    case: &Case<'_>,
     versions: &Versions,
     refutation: Refutation,
 ) -> Result<Option<HistoryVerdict>, AllocError>
-    requires recording { IsRecording recording.now }
-    requires owners { AreOwners recording.now owners.now }
-    requires views { AreViews recording.now views.now }
-    ensures { IfOk result (λ found. IfSome found (IsVerdict recording.now question)) }
+    requires case { IsWhole case.now }
+    ensures { IfOk result (λ found. IfSome found (IsVerdict case.now.recording.now case.now.question)) }
 {
     if !versions.recorded.is_history() {
         return Ok(None);
     }
-    if !is_refutation(
-        alloc,
-        recording,
-        owners,
-        views,
-        versions,
-        question,
-        &refutation,
-    )? {
+    if !is_refutation(alloc, case, versions, &refutation)? {
         return Ok(None);
     }
     Ok(Some(HistoryVerdict::Refuted(refutation)))
@@ -164,27 +130,20 @@ pub(crate) fn refuted_by(
 /// What the versions in one order are for the recording, if that is known.
 pub(crate) fn try_versions(
     alloc: Global,
-    recording: &Recording,
-    owners: &[Option<Owner>],
-    views: &[RecordedView],
-    question: Question,
+    case: &Case<'_>,
     versions: Versions,
 ) -> Result<Option<HistoryVerdict>, AllocError>
-    requires recording { IsRecording recording.now }
-    requires owners { AreOwners recording.now owners.now }
-    requires views { AreViews recording.now views.now }
-    ensures { IfOk result (λ found. IfSome found (IsVerdict recording.now question)) }
+    requires case { IsWhole case.now }
+    ensures { IfOk result (λ found. IfSome found (IsVerdict case.now.recording.now case.now.question)) }
 {
     if !versions.recorded.is_history() {
         return Ok(None);
     }
     match decide(alloc, &versions.recorded)? {
-        HistoryDecision::Yes(starts, commits) => {
-            yes_at(alloc, recording, views, question, versions, starts, commits)
-        }
+        HistoryDecision::Yes(starts, commits) => yes_at(alloc, case, versions, starts, commits),
         HistoryDecision::No(nodes) => {
             let nodes = nodes.as_slice();
-            no_of(alloc, recording, owners, views, question, &versions, nodes)
+            no_of(alloc, case, &versions, nodes)
         }
     }
 }
@@ -193,22 +152,17 @@ pub(crate) fn try_versions(
 /// this order.
 pub(crate) fn verdict_in(
     alloc: Global,
-    recording: &Recording,
-    owners: &[Option<Owner>],
-    views: &[RecordedView],
-    question: Question,
+    case: &Case<'_>,
     lives: &Lives,
     parts: &ChainParts,
     order: &[u32],
     asked: Asked,
 ) -> Result<Option<HistoryVerdict>, AllocError>
-    requires recording { IsRecording recording.now }
-    requires owners { AreOwners recording.now owners.now }
-    requires views { AreViews recording.now views.now }
-    ensures { IfOk result (λ found. IfSome found (IsVerdict recording.now question)) }
+    requires case { IsWhole case.now }
+    ensures { IfOk result (λ found. IfSome found (IsVerdict case.now.recording.now case.now.question)) }
 {
-    let (plan, _) = plan_of(alloc, recording, views, parts, order, asked)?;
+    let (plan, _) = plan_of(alloc, case, parts, order, asked)?;
     let puts = parts.puts.all.as_slice();
-    let versions = versions_of(alloc, recording, views, question, lives, puts, &plan)?;
-    try_versions(alloc, recording, owners, views, question, versions)
+    let versions = versions_of(alloc, case, lives, puts, &plan)?;
+    try_versions(alloc, case, versions)
 }

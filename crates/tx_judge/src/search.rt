@@ -1,8 +1,6 @@
 //! The search for an order of the puts of which nobody knows it.
 ghost use Rattle.std.specs.Prelude.{IfOk, IfSome};
-ghost use Rattle.tx_recording.specs.Recordings.{IsRecording};
-ghost use Rattle.tx_views.specs.Views.{AreViews};
-ghost use Rattle.tx_views.specs.Owners.{AreOwners};
+ghost use Rattle.tx_verdict.specs.Cases.{IsWhole};
 ghost use Rattle.tx_verdict.specs.Verdicts.{IsVerdict};
 
 use crate::attempt::{refuted_by, try_versions, verdict_in};
@@ -12,8 +10,7 @@ use crate::open_keys::open_keys;
 use std::alloc::{AllocError, Global};
 use tx_chains::{Asked, ChainParts, Extras, Put, number, plan_of, versions_of};
 use tx_recording::Recording;
-use tx_verdict::{HistoryVerdict, Level, Lives, Question};
-use tx_views::{Owner, RecordedView};
+use tx_verdict::{Case, HistoryVerdict, Level, Lives, Question};
 
 // The puts in their own order.
 fn in_turn(alloc: Global, count: usize) -> Result<Vec<u32>, AllocError> {
@@ -38,57 +35,35 @@ fn number_of(puts: &[Put], numbers: &[usize], place: u32) -> usize {
 // What the recording is, with those puts in the order of some numbers of their transactions.
 fn verdict_by(
     alloc: Global,
-    recording: &Recording,
-    owners: &[Option<Owner>],
-    views: &[RecordedView],
-    question: Question,
+    case: &Case<'_>,
     lives: &Lives,
     parts: &ChainParts,
     numbers: &[usize],
 ) -> Result<Option<HistoryVerdict>, AllocError>
-    requires recording { IsRecording recording.now }
-    requires owners { AreOwners recording.now owners.now }
-    requires views { AreViews recording.now views.now }
-    ensures { IfOk result (λ found. IfSome found (IsVerdict recording.now question)) }
+    requires case { IsWhole case.now }
+    ensures { IfOk result (λ found. IfSome found (IsVerdict case.now.recording.now case.now.question)) }
 {
     let puts = parts.puts.all.as_slice();
     let mut order = in_turn(alloc, puts.len())?;
     order.sort_by_key(|place| number_of(puts, numbers, *place))?;
     let order = order.as_slice();
-    verdict_in(
-        alloc,
-        recording,
-        owners,
-        views,
-        question,
-        lives,
-        parts,
-        order,
-        Asked::All,
-    )
+    verdict_in(alloc, case, lives, parts, order, Asked::All)
 }
 
 // What the recording is, with those puts in one of these question, or in which they are recorded.
 fn verdict_found(
     alloc: Global,
-    recording: &Recording,
-    owners: &[Option<Owner>],
-    views: &[RecordedView],
-    question: Question,
+    case: &Case<'_>,
     lives: &Lives,
     parts: &ChainParts,
     guesses: &[Vec<usize>],
 ) -> Result<Option<HistoryVerdict>, AllocError>
-    requires recording { IsRecording recording.now }
-    requires owners { AreOwners recording.now owners.now }
-    requires views { AreViews recording.now views.now }
-    ensures { IfOk result (λ found. IfSome found (IsVerdict recording.now question)) }
+    requires case { IsWhole case.now }
+    ensures { IfOk result (λ found. IfSome found (IsVerdict case.now.recording.now case.now.question)) }
 {
     for i in 0..guesses.len() {
         let guess = guesses[i].as_slice();
-        let found = verdict_by(
-            alloc, recording, owners, views, question, lives, parts, guess,
-        )?;
+        let found = verdict_by(alloc, case, lives, parts, guess)?;
         if found.is_some() {
             return Ok(found);
         }
@@ -96,41 +71,30 @@ fn verdict_found(
     let turn = in_turn(alloc, parts.puts.all.len())?;
     let order = turn.as_slice();
     let asked = Asked::All;
-    verdict_in(
-        alloc, recording, owners, views, question, lives, parts, order, asked,
-    )
+    verdict_in(alloc, case, lives, parts, order, asked)
 }
 
 // What the recording is by what holds in each order of those puts, or by one that is found.
 fn verdict_by_hint(
     alloc: Global,
-    recording: &Recording,
-    owners: &[Option<Owner>],
-    views: &[RecordedView],
-    question: Question,
+    case: &Case<'_>,
     lives: &Lives,
     parts: &ChainParts,
     hint: Hint,
 ) -> Result<Option<HistoryVerdict>, AllocError>
-    requires recording { IsRecording recording.now }
-    requires owners { AreOwners recording.now owners.now }
-    requires views { AreViews recording.now views.now }
-    ensures { IfOk result (λ found. IfSome found (IsVerdict recording.now question)) }
+    requires case { IsWhole case.now }
+    ensures { IfOk result (λ found. IfSome found (IsVerdict case.now.recording.now case.now.question)) }
 {
     match hint {
         Hint::First(first) => {
             let turn = in_turn(alloc, parts.puts.all.len())?;
             let asked = Asked::First(first.as_slice());
             let order = turn.as_slice();
-            verdict_in(
-                alloc, recording, owners, views, question, lives, parts, order, asked,
-            )
+            verdict_in(alloc, case, lives, parts, order, asked)
         }
         Hint::Guesses(guesses) => {
             let guesses = guesses.as_slice();
-            verdict_found(
-                alloc, recording, owners, views, question, lives, parts, guesses,
-            )
+            verdict_found(alloc, case, lives, parts, guesses)
         }
         Hint::Nothing => Ok(None),
     }
@@ -155,42 +119,34 @@ fn told_orders(recording: &Recording, question: Question) -> Question {
 // What the recording is, by orders of puts that follow from what was seen and from these orders.
 fn verdict_by_found(
     alloc: Global,
-    recording: &Recording,
-    owners: &[Option<Owner>],
-    views: &[RecordedView],
-    question: Question,
+    case: &Case<'_>,
     lives: &Lives,
     parts: &ChainParts,
     told: Question,
     budget: u32,
 ) -> Result<Option<HistoryVerdict>, AllocError>
-    requires recording { IsRecording recording.now }
-    requires owners { AreOwners recording.now owners.now }
-    requires views { AreViews recording.now views.now }
-    ensures { IfOk result (λ found. IfSome found (IsVerdict recording.now question)) }
+    requires case { IsWhole case.now }
+    ensures { IfOk result (λ found. IfSome found (IsVerdict case.now.recording.now case.now.question)) }
 {
     let puts = parts.puts.all.as_slice();
     let turn = in_turn(alloc, puts.len())?;
     let asked = Asked::First(&[]);
-    let (plan, extras) = plan_of(alloc, recording, views, parts, turn.as_slice(), asked)?;
+    let (plan, extras) = plan_of(alloc, case, parts, turn.as_slice(), asked)?;
     let level = told.level;
-    let mut plain = told;
-    plain.level = Level::Snapshot;
-    let versions = versions_of(alloc, recording, views, plain, lives, puts, &plan)?;
-    let count = views.len();
+    let mut plain = *case;
+    plain.question = Question {
+        level: Level::Snapshot,
+        orders: told.orders,
+    };
+    let versions = versions_of(alloc, &plain, lives, puts, &plan)?;
+    let (recording, count) = (case.recording, case.views.len());
     match follows_from(
         alloc, recording, level, count, &versions, puts, &extras, budget,
     )? {
-        Follows::Refuted(refutation) => {
-            refuted_by(
-                alloc, recording, owners, views, question, &versions, refutation,
-            )
-        }
+        Follows::Refuted(refutation) => refuted_by(alloc, case, &versions, refutation),
         Follows::Guesses(guesses) => {
             let guesses = guesses.as_slice();
-            verdict_found(
-                alloc, recording, owners, views, question, lives, parts, guesses,
-            )
+            verdict_found(alloc, case, lives, parts, guesses)
         }
         Follows::Nothing => Ok(None),
     }
@@ -199,43 +155,34 @@ fn verdict_by_found(
 // The orders of which to look: those that the lines tell of, and those that are asked for.
 fn verdict_by_orders(
     alloc: Global,
-    recording: &Recording,
-    owners: &[Option<Owner>],
-    views: &[RecordedView],
-    question: Question,
+    case: &Case<'_>,
     lives: &Lives,
     parts: &ChainParts,
     budget: u32,
 ) -> Result<Option<HistoryVerdict>, AllocError>
-    requires recording { IsRecording recording.now }
-    requires owners { AreOwners recording.now owners.now }
-    requires views { AreViews recording.now views.now }
-    ensures { IfOk result (λ found. IfSome found (IsVerdict recording.now question)) }
+    requires case { IsWhole case.now }
+    ensures { IfOk result (λ found. IfSome found (IsVerdict case.now.recording.now case.now.question)) }
 {
-    let told = told_orders(recording, question);
-    let found = verdict_by_found(
-        alloc, recording, owners, views, question, lives, parts, told, budget,
-    )?;
+    let question = case.question;
+    let told = told_orders(case.recording, question);
+    let found = verdict_by_found(alloc, case, lives, parts, told, budget)?;
     if found.is_some() || told == question {
         return Ok(found);
     }
-    verdict_by_found(
-        alloc, recording, owners, views, question, lives, parts, question, budget,
-    )
+    verdict_by_found(alloc, case, lives, parts, question, budget)
 }
 
 // The verdict where none was found.
 fn undecided(
     alloc: Global,
-    recording: &Recording,
+    case: &Case<'_>,
     puts: &[Put],
     extras: &Extras,
-    question: Question,
 ) -> Result<HistoryVerdict, AllocError>
-    requires recording { IsRecording recording.now }
-    ensures { IfOk result (IsVerdict recording.now question) }
+    requires case { IsWhole case.now }
+    ensures { IfOk result (IsVerdict case.now.recording.now case.now.question) }
 {
-    let keys = open_keys(alloc, recording, puts, extras)?;
+    let keys = open_keys(alloc, case.recording, puts, extras)?;
     if keys.is_empty() {
         return Ok(HistoryVerdict::Unknown);
     }
@@ -246,62 +193,46 @@ fn undecided(
 // that are found.
 fn verdict_sought(
     alloc: Global,
-    recording: &Recording,
-    owners: &[Option<Owner>],
-    views: &[RecordedView],
-    question: Question,
+    case: &Case<'_>,
     lives: &Lives,
     parts: &ChainParts,
     hint: Hint,
     budget: u32,
 ) -> Result<Option<HistoryVerdict>, AllocError>
-    requires recording { IsRecording recording.now }
-    requires owners { AreOwners recording.now owners.now }
-    requires views { AreViews recording.now views.now }
-    ensures { IfOk result (λ found. IfSome found (IsVerdict recording.now question)) }
+    requires case { IsWhole case.now }
+    ensures { IfOk result (λ found. IfSome found (IsVerdict case.now.recording.now case.now.question)) }
 {
-    let found = verdict_by_hint(
-        alloc, recording, owners, views, question, lives, parts, hint,
-    )?;
+    let found = verdict_by_hint(alloc, case, lives, parts, hint)?;
     if found.is_some() {
         return Ok(found);
     }
-    verdict_by_orders(
-        alloc, recording, owners, views, question, lives, parts, budget,
-    )
+    verdict_by_orders(alloc, case, lives, parts, budget)
 }
 
 /// What the recording is, if the order of its puts is known, or one is found.
 pub(crate) fn judge_parts(
     alloc: Global,
-    recording: &Recording,
-    owners: &[Option<Owner>],
-    views: &[RecordedView],
-    question: Question,
+    case: &Case<'_>,
     lives: &Lives,
     parts: &ChainParts,
     budget: u32,
 ) -> Result<HistoryVerdict, AllocError>
-    requires recording { IsRecording recording.now }
-    requires owners { AreOwners recording.now owners.now }
-    requires views { AreViews recording.now views.now }
-    ensures { IfOk result (IsVerdict recording.now question) }
+    requires case { IsWhole case.now }
+    ensures { IfOk result (IsVerdict case.now.recording.now case.now.question) }
 {
     let puts = parts.puts.all.as_slice();
     let turn = in_turn(alloc, puts.len())?;
     let asked = Asked::First(&[]);
-    let (plan, extras) = plan_of(alloc, recording, views, parts, turn.as_slice(), asked)?;
-    let versions = versions_of(alloc, recording, views, question, lives, puts, &plan)?;
-    let hint = hint_of(alloc, &versions, &plan, puts, &extras, recording.keys)?;
-    let found = try_versions(alloc, recording, owners, views, question, versions)?;
+    let (plan, extras) = plan_of(alloc, case, parts, turn.as_slice(), asked)?;
+    let versions = versions_of(alloc, case, lives, puts, &plan)?;
+    let hint = hint_of(alloc, &versions, &plan, puts, &extras, case.recording.keys)?;
+    let found = try_versions(alloc, case, versions)?;
     if let Some(verdict) = found {
         return Ok(verdict);
     }
-    let found = verdict_sought(
-        alloc, recording, owners, views, question, lives, parts, hint, budget,
-    )?;
+    let found = verdict_sought(alloc, case, lives, parts, hint, budget)?;
     match found {
         Some(verdict) => Ok(verdict),
-        None => undecided(alloc, recording, puts, &extras, question),
+        None => undecided(alloc, case, puts, &extras),
     }
 }

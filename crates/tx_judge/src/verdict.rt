@@ -1,8 +1,9 @@
 //! Whether a recording is snapshot isolation, or serializable.
 ghost use Rattle.std.specs.Prelude.{IfOk, IfSome, IsTrue};
 ghost use Rattle.tx_recording.specs.Recordings.{IsRecording};
-ghost use Rattle.tx_views.specs.Views.{AreViews, IsViewed};
+ghost use Rattle.tx_views.specs.Views.{IsViewed};
 ghost use Rattle.tx_views.specs.Owners.{AreOwners, IsOwned};
+ghost use Rattle.tx_verdict.specs.Cases.{IsWhole};
 ghost use Rattle.tx_verdict.specs.Facts.{AreLists};
 ghost use Rattle.tx_verdict.specs.Verdicts.{IsVerdict, IsWrong};
 
@@ -11,21 +12,18 @@ use std::alloc::{AllocError, Global};
 use tx_chains::{ChainParts, follows_of, lives_of, number, put_at, puts_of};
 use tx_recording::Recording;
 use tx_verdict::{
-    Fact, HistoryVerdict, Question, are_lists, internal, wrong_lists, wrong_update, wrong_views,
+    Case, Fact, HistoryVerdict, Question, are_lists, internal, wrong_lists, wrong_update,
+    wrong_views,
 };
 use tx_views::{Owned, Owner, RecordedView, Viewed, owners, views};
 
 // By key, the view with most values, where keys hold lists.
-fn longest_of(
-    alloc: Global,
-    recording: &Recording,
-    views: &[RecordedView],
-    lists: bool,
-) -> Result<Vec<Option<u32>>, AllocError> {
-    let mut longest = vec![in alloc; None; recording.keys as usize]?;
+fn longest_of(alloc: Global, case: &Case<'_>, lists: bool) -> Result<Vec<Option<u32>>, AllocError> {
+    let mut longest = vec![in alloc; None; case.recording.keys as usize]?;
     if !lists {
         return Ok(longest);
     }
+    let views = case.views;
     for place in 0..views.len() {
         let key = views[place].key as usize;
         if views[place].span.count > count_at(longest.as_slice(), views, key) {
@@ -49,52 +47,39 @@ fn count_at(longest: &[Option<u32>], views: &[RecordedView], key: usize) -> u32 
 // What is wrong with the lists that were seen, where keys hold lists.
 fn wrong_lists_if(
     alloc: Global,
-    recording: &Recording,
-    owners: &[Option<Owner>],
-    views: &[RecordedView],
+    case: &Case<'_>,
     longest: &[Option<u32>],
     lists: bool,
 ) -> Result<Option<Fact>, AllocError>
-    requires recording { IsRecording recording.now }
-    requires owners { AreOwners recording.now owners.now }
-    requires views { AreViews recording.now views.now }
-    requires lists { IsTrue lists → AreLists recording.now }
-    ensures { IfOk result (λ found. IfSome found (IsWrong recording.now)) }
+    requires case { IsWhole case.now }
+    requires lists { IsTrue lists → AreLists case.now.recording.now }
+    ensures { IfOk result (λ found. IfSome found (IsWrong case.now.recording.now)) }
 {
     if !lists {
         return Ok(None);
     }
-    wrong_lists(alloc, recording, owners, views, longest)
+    wrong_lists(alloc, case, longest)
 }
 
 // What the recording is, by what was seen.
-fn judge_views(
-    alloc: Global,
-    recording: &Recording,
-    owners: &[Option<Owner>],
-    views: &[RecordedView],
-    question: Question,
-    budget: u32,
-) -> Result<HistoryVerdict, AllocError>
-    requires recording { IsRecording recording.now }
-    requires owners { AreOwners recording.now owners.now }
-    requires views { AreViews recording.now views.now }
-    ensures { IfOk result (IsVerdict recording.now question) }
+fn judge_views(alloc: Global, case: &Case<'_>, budget: u32) -> Result<HistoryVerdict, AllocError>
+    requires case { IsWhole case.now }
+    ensures { IfOk result (IsVerdict case.now.recording.now case.now.question) }
 {
-    if let Some(fact) = wrong_views(alloc, recording, owners, views)? {
+    if let Some(fact) = wrong_views(alloc, case)? {
         return Ok(HistoryVerdict::Fact(fact));
     }
-    let lists = are_lists(recording);
-    let longest = longest_of(alloc, recording, views, lists)?;
+    let lists = are_lists(case.recording);
+    let longest = longest_of(alloc, case, lists)?;
     let table = longest.as_slice();
-    if let Some(fact) = wrong_lists_if(alloc, recording, owners, views, table, lists)? {
+    if let Some(fact) = wrong_lists_if(alloc, case, table, lists)? {
         return Ok(HistoryVerdict::Fact(fact));
     }
-    let lives = lives_of(alloc, recording, owners, views)?;
-    let puts = puts_of(alloc, recording, views, lives.live.as_slice())?;
-    let follows = follows_of(alloc, recording, views, puts.all.as_slice())?;
+    let lives = lives_of(alloc, case)?;
+    let puts = puts_of(alloc, case, lives.live.as_slice())?;
+    let follows = follows_of(alloc, case, puts.all.as_slice())?;
     if let Some(lost) = follows.lost {
-        if let Some(fact) = wrong_update(recording, owners, views, lost) {
+        if let Some(fact) = wrong_update(case, lost) {
             return Ok(HistoryVerdict::Fact(fact));
         }
     }
@@ -103,9 +88,7 @@ fn judge_views(
         follows,
         longest,
     };
-    judge_parts(
-        alloc, recording, owners, views, question, &lives, &parts, budget,
-    )
+    judge_parts(alloc, case, &lives, &parts, budget)
 }
 
 // What the recording is, by what its reads say.
@@ -124,7 +107,13 @@ fn judge_viewed(
 {
     match viewed {
         Viewed::Views(views) => {
-            judge_views(alloc, recording, owners, views.as_slice(), question, budget)
+            let case = Case {
+                recording,
+                owners,
+                views: views.as_slice(),
+                question,
+            };
+            judge_views(alloc, &case, budget)
         }
         Viewed::Internal(txn, place) => Ok(HistoryVerdict::Fact(internal(recording, txn, place))),
     }

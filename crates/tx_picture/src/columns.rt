@@ -15,6 +15,9 @@ pub(crate) const MARGIN: usize = 6;
 /// The least that is left for what changed, where a line is to have so many places.
 const LEAST_ROOM: usize = 20;
 
+/// A column that is narrower is hard to read.
+const LEAST_WIDTH: usize = 12;
+
 /// A column: where it begins, and how wide it is.
 #[derive(Clone, Copy, Drop)]
 pub(crate) struct Column {
@@ -27,6 +30,8 @@ pub(crate) struct Column {
 pub(crate) struct Columns {
     pub all: Vec<Column>,
     pub total: usize,
+    /// Whether all sessions have one column, in which each entry names its own.
+    pub by_name: bool,
 }
 
 // The width of the widest entry of a column.
@@ -86,19 +91,32 @@ fn most_within(widths: &[usize], width: usize) -> usize {
     most
 }
 
+// The width of the widest of these entries.
+fn widest_of(entries: &[Entry]) -> usize {
+    let mut width = 0;
+    'rows: for entry in entries {
+        width = places(entry.step.as_str()).max(width);
+    }
+    width
+}
+
 impl Columns {
-    /// The columns of a part whose rows have these words, in lines of so many places.
+    /// The columns of a part whose rows have these words, in lines of so many places. None where
+    /// they would be too narrow to be read.
     pub fn of(
         alloc: Global,
         part: &Part<'_>,
         entries: &[Entry],
         width: Option<usize>,
-    ) -> Result<Columns, AllocError> {
+    ) -> Result<Option<Columns>, AllocError> {
         let widths = widths_of(alloc, part, entries)?;
         let most = match width {
             Some(width) => most_within(widths.as_slice(), width),
             None => MAX_WIDTH,
         };
+        if most < LEAST_WIDTH && part.columns > 1 {
+            return Ok(None);
+        }
         let mut all = Vec::new(alloc);
         let mut begins = 0usize;
         'widths: for width in &widths {
@@ -106,7 +124,33 @@ impl Columns {
             all.push(Column { begins, width })?;
             begins = begins.saturating_add(width);
         }
-        Ok(Columns { all, total: begins })
+        Ok(Some(Columns {
+            all,
+            total: begins,
+            by_name: false,
+        }))
+    }
+
+    /// One column in lines of so many places, whose entries, which name their sessions, have these
+    /// words.
+    pub fn by_name(
+        alloc: Global,
+        entries: &[Entry],
+        width: Option<usize>,
+    ) -> Result<Columns, AllocError> {
+        let room = match width {
+            Some(width) => width.saturating_sub(MARGIN + BETWEEN + LEAST_ROOM),
+            None => MAX_WIDTH,
+        };
+        let most = room.max(LEAST_WIDTH).min(MAX_WIDTH);
+        let width = widest_of(entries).min(most).saturating_add(BETWEEN);
+        let mut all = Vec::new(alloc);
+        all.push(Column { begins: 0, width })?;
+        Ok(Columns {
+            all,
+            total: width,
+            by_name: true,
+        })
     }
 
     /// Where a row of a column begins; one of none as the first.

@@ -1,7 +1,7 @@
 //! The words of a row.
 use crate::change::changed_words;
 use std::alloc::{AllocError, Global};
-use tx_cut::{Part, Row, Sending};
+use tx_cut::{Part, Row, Sending, shown};
 
 /// The words of a row: its step and its reply, and what changed by it.
 #[derive(Drop)]
@@ -43,6 +43,14 @@ fn entry_of(alloc: Global, part: &Part<'_>, row: &Row) -> Result<Entry, AllocErr
     Ok(Entry { step, changes })
 }
 
+// The name of the session of a row; nothing where it is a step of none.
+fn name_of(alloc: Global, part: &Part<'_>, row: &Row) -> Result<String, AllocError> {
+    match part.life_of(row) {
+        Some(life) => shown(alloc, life.name),
+        None => Ok(String::new(alloc)),
+    }
+}
+
 /// The words of all rows of a part.
 pub(crate) fn entries_of(alloc: Global, part: &Part<'_>) -> Result<Vec<Entry>, AllocError> {
     let mut entries = Vec::new(alloc);
@@ -50,4 +58,23 @@ pub(crate) fn entries_of(alloc: Global, part: &Part<'_>) -> Result<Vec<Entry>, A
         entries.push(entry_of(alloc, part, shown.row)?)?;
     }
     Ok(entries)
+}
+
+/// These words of the rows of a part, each behind the name of its session.
+pub(crate) fn named(
+    alloc: Global,
+    part: &Part<'_>,
+    entries: Vec<Entry>,
+) -> Result<Vec<Entry>, AllocError> {
+    let mut with_names = Vec::new(alloc);
+    'rows: for (shown, entry) in part.rows.iter().zip(entries) {
+        let mut step = name_of(alloc, part, shown.row)?;
+        if !step.is_empty() {
+            step.push(' ')?;
+        }
+        step.push_str(entry.step.as_str())?;
+        let changes = entry.changes;
+        with_names.push(Entry { step, changes })?;
+    }
+    Ok(with_names)
 }

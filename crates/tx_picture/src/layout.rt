@@ -1,6 +1,6 @@
 //! A part of a sheet as text.
 use crate::columns::{BETWEEN, Column, Columns, MARGIN};
-use crate::entry::{Entry, entries_of};
+use crate::entry::{Entry, entries_of, named};
 use crate::wrap::{Room, put_spaces, put_words};
 use std::alloc::{AllocError, Global};
 use tx_cut::{Part, ShownRow, places, put_first, put_number, shown};
@@ -100,6 +100,10 @@ impl Frame<'_> {
         row: usize,
     ) -> Result<(), AllocError> {
         out.push_str("line  ")?;
+        if self.columns.by_name {
+            put_spaces(out, self.columns.total)?;
+            return out.push_str("what changed\n");
+        }
         'columns: for (column, session) in self.columns.all.iter().zip(heads) {
             let name = self.name_at(alloc, *session, row)?;
             self.put_name(out, *column, name.as_str())?;
@@ -125,7 +129,7 @@ impl Frame<'_> {
         let Some(head) = heads.get_mut(column) else {
             return Ok(());
         };
-        if *head == session {
+        if *head == session || self.columns.by_name {
             return Ok(());
         }
         *head = session;
@@ -212,23 +216,39 @@ impl Frame<'_> {
     }
 }
 
-/// The text of a part of a sheet: a column a session, a line a step, and beside it what changed of
-/// keys. Where a session takes a column that was another's, the heads stand there once more. Where
-/// lines are to have at most so many places, what is longer goes on below, but for a single word.
-pub fn text_of(alloc: Global, part: &Part<'_>, width: Option<usize>) -> Result<String, AllocError> {
+// The text of a part whose rows have these words, in these columns.
+fn text_in(
+    alloc: Global,
+    part: &Part<'_>,
+    columns: &Columns,
+    entries: &[Entry],
+    width: Option<usize>,
+) -> Result<String, AllocError> {
     let mut out = String::new(alloc);
-    let entries = entries_of(alloc, part)?;
-    let columns = Columns::of(alloc, part, entries.as_slice(), width)?;
     let frame = Frame {
         part,
-        columns: &columns,
+        columns,
         width,
     };
     let mut heads = first_heads(alloc, part)?;
     frame.put_head(alloc, &mut out, heads.as_slice(), 0)?;
-    'rows: for (place, (shown, entry)) in part.rows.iter().zip(entries.as_slice()).enumerate() {
+    'rows: for (place, (shown, entry)) in part.rows.iter().zip(entries).enumerate() {
         frame.put_new_head(alloc, &mut out, heads.as_mut_slice(), place, *shown)?;
         frame.put_row(alloc, &mut out, *shown, entry)?;
     }
     Ok(out)
+}
+
+/// The text of a part of a sheet: a column a session, a line a step, and beside it what changed of
+/// keys. Where a session takes a column that was another's, the heads stand there once more. Where
+/// lines are to have at most so many places, what is longer goes on below, but for a single word;
+/// and where columns would be too narrow for that, there is one, and each entry names its session.
+pub fn text_of(alloc: Global, part: &Part<'_>, width: Option<usize>) -> Result<String, AllocError> {
+    let entries = entries_of(alloc, part)?;
+    if let Some(columns) = Columns::of(alloc, part, entries.as_slice(), width)? {
+        return text_in(alloc, part, &columns, entries.as_slice(), width);
+    }
+    let entries = named(alloc, part, entries)?;
+    let columns = Columns::by_name(alloc, entries.as_slice(), width)?;
+    text_in(alloc, part, &columns, entries.as_slice(), width)
 }

@@ -1,6 +1,6 @@
 -- What a try that stays in one place keeps.
 use Rattle.std.proofs.Common.{◌≡◌, ◌≤◌, ℕ, Option, Some, None, refl, sym, subst}
-use Rattle.std.specs.Prelude.{IfSome, IsSomeAnd, option_map, option_and_then}
+use Rattle.std.specs.Prelude.{IfSome, IsSome, IsSomeAnd, unwrap_or, option_map, option_and_then}
 use Rattle.tx_types.specs.declared.key.Key.{Key}
 use Rattle.tx_plan.specs.declared.planned_answer.Plan.{Plan}
 use Rattle.tx_plan.specs.Cells.{Region}
@@ -13,6 +13,31 @@ use Rattle.tx_region.specs.declared.copy.KeyView.{KeyView}
 use Rattle.tx_region.specs.declared.copy.Loaded.{Loaded}
 use Rattle.tx_region.specs.declared.copy.RegionNumbers.{RegionNumbers}
 use Rattle.tx_region.proofs.Copies.{same_itself}
+
+-- ---- a type whose values are tries that have a copy, or a plan
+
+module _ {X : Type 0} (P : X → Type 0) where
+  pub there_is : (o : Option X) → IsSomeAnd o P → IsSome o
+  there_is None is = absurd is
+  there_is (Some x) is = refl
+
+  pub unwrapped : (o : Option X) (d : X) → IsSomeAnd o P → P (unwrap_or o d)
+  unwrapped None d is = absurd is
+  unwrapped (Some x) d is = is
+
+  pub wrapped : (o : Option X) (d : X) → IsSome o → P (unwrap_or o d) → IsSomeAnd o P
+  wrapped None d some is = absurd (cc (some))
+  wrapped (Some x) d some is = is
+
+  pub if_unwrapped : (o : Option X) (d : X) → IsSome o → IfSome o P → P (unwrap_or o d)
+  if_unwrapped None d some is = absurd (cc (some))
+  if_unwrapped (Some x) d some is = is
+
+  pub there_then : (Q : X → Type 0) (o : Option X) → ((x : X) → P x → Q x) → IsSomeAnd o P → IsSomeAnd o Q
+  there_then Q None then is = is
+  there_then Q (Some x) then is = then x is
+
+-- ---- what a try is made of
 
 module _ {S : Type 0} (told : S → History) (bytes : S → Key) (n : ℕ) (view : KeyView) (numbers : RegionNumbers)
     (taken : ℕ) (loaded : Loaded) where

@@ -1,21 +1,45 @@
 -- One try of a request, which stays in one place: its copy, the plan of that, and the answer.
-use Rattle.std.specs.Prelude.{ℕ, List, Option, Some, None}
+use Rattle.std.specs.Prelude.{ℕ, List, [], Option, Some, None}
 use Rattle.tx_types.specs.declared.key.Key.{Key}
 use Rattle.tx_plan.specs.declared.answer.Answer.{Answer}
 use Rattle.tx_plan.specs.declared.body.Body.{Body}
 use Rattle.tx_plan.specs.declared.body.Body.TheVariants.{Get}
+use Rattle.tx_plan.specs.declared.key_change.KeyChange.TheVariants.{Nothing}
 use Rattle.tx_plan.specs.declared.planned_answer.Plan.{Plan}
+use Rattle.tx_plan.specs.declared.planned_answer.PlannedAnswer.TheVariants.{KeyIsLocked}
 use Rattle.tx_core.specs.Histories.{History}
 use Rattle.tx_journal.specs.Replies.{Asked}
 use Rattle.tx_region.specs.KeyPlans.{Copied, PlanOf, CarriesPlan, ComesOf}
 use Rattle.tx_region.specs.declared.applied.Applied.{Applied}
 use Rattle.tx_region.specs.declared.applied.Applied.TheVariants.{Done, Stale}
+use Rattle.tx_region.specs.declared.copy.KeyView.TheVariants.{Read}
 
 -- a try: the copy, if it was made, the plan of that, if it was planned, and the answer
 pub record Tried : Type 0 where
   pub copy : Option Copied
   pub plan : Option PlanOf
   pub answer : Option Answer
+
+-- What is read off a try that has no copy, and off one that has no plan. No value of `KeyCopy` or
+-- `Planned` is such a try, by their invariants.
+abbrev pub no_copy : Copied
+no_copy = record {
+  region = 0;
+  events = [];
+  key = [];
+  view = Read record { lock = None; value = None };
+  numbers = record { safe = 0; collected = 0 };
+  loaded = record { last = 0; mark = 0 };
+}
+
+abbrev pub no_plan : PlanOf
+no_plan = record {
+  region = 0;
+  events = [];
+  key = [];
+  loaded = record { last = 0; mark = 0 };
+  planned = record { answer = KeyIsLocked; change = Nothing; read = None };
+}
 
 -- what came of a plan that was applied to a request, in the words of a region that takes the
 -- request and gives a reply: it gave this answer and then knew this, or it gave the request back

@@ -3,7 +3,7 @@ ghost use Rattle.std.specs.Prelude.{◌≡◌, None, IsSomeAnd};
 ghost use Rattle.tx_region.specs.KeyPlans.{IsCopyFor, IsPlanFor};
 
 use crate::copy::{KeyView, Loaded, RegionNumbers, no_view};
-use crate::copy_plan::plan_on;
+use crate::copy_plan::plan;
 use std::marker::Model;
 use tx_core::SeatNo;
 use tx_journal::{AnswerWithLock, JournalId, Request, Told};
@@ -98,7 +98,7 @@ impl<J: JournalId> Attempt<J> {
             × IsSomeAnd self.old.copy (λ copy. (plan.region ≡ copy.region) × (plan.events ≡ copy.events))) }
         ensures same { self.new.answer ≡ self.old.answer }
     {
-        let planned = plan_on(&mut self.view, &self.numbers, &self.loaded, request.body());
+        let planned = plan(&mut self.view, &self.numbers, &self.loaded, request.body());
         self.planned = Some(planned);
     }
 

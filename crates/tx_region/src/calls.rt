@@ -1,8 +1,7 @@
-//! The calls of a region by name, and the call that answers whatever is asked.
+//! The calls of a region by name: each is the one that answers whatever is asked (`take`).
 ghost use Rattle.std.specs.Prelude.{◌≡◌, IfSome, IfNone, IsSome};
 ghost use Rattle.tx_core.specs.Worlds.{Holds};
 ghost use Rattle.tx_journal.specs.Known.{HasSeen};
-ghost use Rattle.tx_region.specs.Calls.{TakesNoMemory};
 ghost use Rattle.tx_region.specs.Commands.{IsGet, IsScan, IsPrewrite, IsCommit, IsBatchRollback, IsTxnHeartBeat, IsCheckTxnStatus, IsCheckSecondaryLocks, IsResolveLock, IsRaiseSafe, IsLocksBelow, IsCollect};
 ghost use Rattle.tx_region.specs.TakenRequests.{Answered};
 
@@ -21,7 +20,7 @@ impl<J: JournalId, F: Families> Region<J, F> {
         ensures answered { IfSome result.answer (Answered J.bounds self.old.seat self.old.events result) }
         ensures refused { IfNone result.answer (HasSeen J.bounds self.old.seat self.old.events self.new.events) }
     {
-        self.answer(request)
+        self.take(request)
     }
 
     /// Answers a Scan.
@@ -34,7 +33,7 @@ impl<J: JournalId, F: Families> Region<J, F> {
         ensures answered { IfSome result.answer (Answered J.bounds self.old.seat self.old.events result) }
         ensures refused { IfNone result.answer (HasSeen J.bounds self.old.seat self.old.events self.new.events) }
     {
-        self.answer(request)
+        self.take(request)
     }
 
     /// Answers a Prewrite.
@@ -47,7 +46,7 @@ impl<J: JournalId, F: Families> Region<J, F> {
         ensures answered { IfSome result.answer (Answered J.bounds self.old.seat self.old.events result) }
         ensures refused { IfNone result.answer (HasSeen J.bounds self.old.seat self.old.events self.new.events) }
     {
-        self.answer(request)
+        self.take(request)
     }
 
     /// Answers a Commit.
@@ -60,7 +59,7 @@ impl<J: JournalId, F: Families> Region<J, F> {
         ensures answered { IfSome result.answer (Answered J.bounds self.old.seat self.old.events result) }
         ensures refused { IfNone result.answer (HasSeen J.bounds self.old.seat self.old.events self.new.events) }
     {
-        self.answer(request)
+        self.take(request)
     }
 
     /// Answers a BatchRollback.
@@ -73,7 +72,7 @@ impl<J: JournalId, F: Families> Region<J, F> {
         ensures answered { IfSome result.answer (Answered J.bounds self.old.seat self.old.events result) }
         ensures refused { IfNone result.answer (HasSeen J.bounds self.old.seat self.old.events self.new.events) }
     {
-        self.answer(request)
+        self.take(request)
     }
 
     /// Answers a TxnHeartBeat.
@@ -86,7 +85,7 @@ impl<J: JournalId, F: Families> Region<J, F> {
         ensures answered { IfSome result.answer (Answered J.bounds self.old.seat self.old.events result) }
         ensures refused { IfNone result.answer (HasSeen J.bounds self.old.seat self.old.events self.new.events) }
     {
-        self.answer(request)
+        self.take(request)
     }
 
     /// Answers a CheckTxnStatus.
@@ -99,7 +98,7 @@ impl<J: JournalId, F: Families> Region<J, F> {
         ensures answered { IfSome result.answer (Answered J.bounds self.old.seat self.old.events result) }
         ensures refused { IfNone result.answer (HasSeen J.bounds self.old.seat self.old.events self.new.events) }
     {
-        self.answer(request)
+        self.take(request)
     }
 
     /// Answers a CheckSecondaryLocks.
@@ -112,7 +111,7 @@ impl<J: JournalId, F: Families> Region<J, F> {
         ensures answered { IfSome result.answer (Answered J.bounds self.old.seat self.old.events result) }
         ensures refused { IfNone result.answer (HasSeen J.bounds self.old.seat self.old.events self.new.events) }
     {
-        self.answer(request)
+        self.take(request)
     }
 
     /// Answers a ResolveLock.
@@ -125,7 +124,7 @@ impl<J: JournalId, F: Families> Region<J, F> {
         ensures answered { IfSome result.answer (Answered J.bounds self.old.seat self.old.events result) }
         ensures refused { IfNone result.answer (HasSeen J.bounds self.old.seat self.old.events self.new.events) }
     {
-        self.answer(request)
+        self.take(request)
     }
 
     /// Answers a RaiseSafe, which takes no memory.
@@ -139,7 +138,7 @@ impl<J: JournalId, F: Families> Region<J, F> {
         ensures always { IsSome result.answer }
         ensures refused { IfNone result.answer (HasSeen J.bounds self.old.seat self.old.events self.new.events) }
     {
-        self.answer(request)
+        self.take(request)
     }
 
     /// Answers a LocksBelow.
@@ -152,7 +151,7 @@ impl<J: JournalId, F: Families> Region<J, F> {
         ensures answered { IfSome result.answer (Answered J.bounds self.old.seat self.old.events result) }
         ensures refused { IfNone result.answer (HasSeen J.bounds self.old.seat self.old.events self.new.events) }
     {
-        self.answer(request)
+        self.take(request)
     }
 
     /// Answers a Collect.
@@ -165,33 +164,6 @@ impl<J: JournalId, F: Families> Region<J, F> {
         ensures answered { IfSome result.answer (Answered J.bounds self.old.seat self.old.events result) }
         ensures refused { IfNone result.answer (HasSeen J.bounds self.old.seat self.old.events self.new.events) }
     {
-        self.answer(request)
-    }
-
-    /// Answers a request that it holds, and records that it did, by one event; where memory is
-    /// refused it does neither. RaiseSafe takes none.
-    pub fn take(&mut self, request: Request<J>) -> Reply<J>
-        requires holds { Holds J.bounds self.old.seat request.body }
-        ensures request { result.request ≡ request }
-        ensures same { (self.new.seat ≡ self.old.seat) × (self.new.ticks ≡ self.old.ticks) }
-        ensures told { self.new.events ≡ result.events }
-        ensures answered { IfSome result.answer (Answered J.bounds self.old.seat self.old.events result) }
-        ensures always { TakesNoMemory request.body → IsSome result.answer }
-        ensures refused { IfNone result.answer (HasSeen J.bounds self.old.seat self.old.events self.new.events) }
-    {
-        self.answer(request)
-    }
-
-    /// The same in place: answers the request of a reply, which then has the answer.
-    pub fn take_in(&mut self, place: &mut Reply<J>)
-        requires holds { Holds J.bounds self.old.seat place.old.request.body }
-        ensures request { place.new.request ≡ place.old.request }
-        ensures same { (self.new.seat ≡ self.old.seat) × (self.new.ticks ≡ self.old.ticks) }
-        ensures told { self.new.events ≡ place.new.events }
-        ensures answered { IfSome place.new.answer (Answered J.bounds self.old.seat self.old.events place.new) }
-        ensures always { TakesNoMemory place.old.request.body → IsSome place.new.answer }
-        ensures refused { IfNone place.new.answer (HasSeen J.bounds self.old.seat self.old.events self.new.events) }
-    {
-        self.answer_in(place);
+        self.take(request)
     }
 }

@@ -49,47 +49,8 @@ pub(crate) fn key_of(body: &Body) -> &Key
     }
 }
 
-/// What a region that looks like this copy makes of a request of one key, where its seat loaded
-/// this.
-#[inline(always)]
-pub(crate) fn plan(view: KeyView, numbers: &RegionNumbers, loaded: &Loaded, body: &Body) -> Plan
-    requires room { (loaded.now.last < u64.MAX) × (loaded.now.mark < u64.MAX) }
-    requires seen { (region : Region) × LooksLike region body.now view numbers.now }
-    ensures { (region : Region) → LooksLike region body.now view numbers.now
-        → IsPlan loaded.now.mark region loaded.now.last body.now result }
-{
-    let collected = numbers.collected;
-    match (view, body) {
-        (KeyView::Read(view), Body::Get(body)) => {
-            plan_get(view, numbers.safe, loaded.last, body)
-        }
-        (KeyView::Prewrite { view, has_value }, Body::Prewrite(body)) => plan_prewrite(
-            &view,
-            has_value,
-            numbers.safe,
-            loaded.last,
-            loaded.mark,
-            body.asked(),
-        ),
-        (KeyView::Txn(view), Body::Commit(body)) => plan_commit(&view, collected, body),
-        (KeyView::Txn(view), Body::BatchRollback(body)) => {
-            plan_batch_rollback(&view, collected, body)
-        }
-        (KeyView::Txn(view), Body::TxnHeartBeat(body)) => {
-            plan_txn_heart_beat(&view, collected, body)
-        }
-        (KeyView::Txn(view), Body::CheckTxnStatus(body)) => {
-            plan_check_txn_status(&view, collected, loaded.last, body)
-        }
-        (KeyView::Txn(view), Body::CheckSecondaryLocks(body)) => {
-            plan_check_secondary_locks(&view, collected, body)
-        }
-        (KeyView::Txn(view), Body::ResolveLock(body)) => plan_resolve_lock(&view, collected, body),
-        _ => unreachable!(),
-    }
-}
-
-// As `plan`, of a copy for a request of a transaction, which stays where it is.
+// What a region that looks like this copy makes of a request of a transaction of one key, where its
+// seat loaded this.
 #[inline(always)]
 fn plan_seen(view: &KeyView, numbers: &RegionNumbers, loaded: &Loaded, body: &Body) -> Plan
     requires room { (loaded.now.last < u64.MAX) × (loaded.now.mark < u64.MAX) }
@@ -140,9 +101,10 @@ fn take_read(view: &mut KeyView) -> ReadView
     }
 }
 
-/// As `plan`, of a copy that stays where it is; only what a read sees is taken out of it.
+/// What a region that looks like this copy makes of a request of one key, where its seat loaded
+/// this. The copy stays where it is; only what a read sees is taken out of it.
 #[inline(always)]
-pub(crate) fn plan_on(
+pub(crate) fn plan(
     view: &mut KeyView,
     numbers: &RegionNumbers,
     loaded: &Loaded,

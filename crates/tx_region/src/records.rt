@@ -3,11 +3,11 @@
 //! regions, which the seat raises and loads.
 //!
 //! A command that is not of one key is a method (`commands`, one file a command). A request of one
-//! key is answered in three steps, which need not follow at once: what it sees of its key (`view`),
-//! the plan (`copy_plan`), and the plan carried out (`make`). All have the same contract: the
-//! answer is the one of the case table, with the least minimum above a mark for an async lock, and
-//! the region is as that answer leaves it, whatever was read in it before. `OutOfMemory` leaves it
-//! as it was: whatever can be refused is asked for before the first change.
+//! key is answered in three steps, which need not follow at once: what it sees of its key
+//! (`view_into`), the plan (`copy_plan`), and the plan carried out (`make`). All have the same
+//! contract: the answer is the one of the case table, with the least minimum above a mark for an
+//! async lock, and the region is as that answer leaves it, whatever was read in it before.
+//! `OutOfMemory` leaves it as it was: whatever can be refused is asked for before the first change.
 //!
 //! Requests that may change a key are counted, and of each key the number of the one that changed
 //! it last is noted: so it is known whether the key is as it was at an earlier moment, however long

@@ -137,19 +137,7 @@ impl<J: JournalId, F: Families> Region<J, F> {
         Loaded { last, mark }
     }
 
-    // The same, after what a request's sender had seen.
-    fn load(&mut self, request: &mut Request<J>) -> Loaded
-        ensures request { request.new ≡ request.old }
-        ensures same { (self.new.seat ≡ self.old.seat) × (self.new.ticks ≡ self.old.ticks) }
-        ensures seen { HasSeen J.bounds self.old.seat self.old.events self.new.events }
-        ensures loads { Loads J.bounds self.old.seat self.old.events request.new.by request.new.body result.last
-            result.mark self.new.events }
-    {
-        let heard = request.tell(&self.seat);
-        self.load_after(heard, request.body())
-    }
-
-    // The same of the request of a reply.
+    // The same, after what the sender of a reply's request had seen.
     fn load_in(&mut self, place: &mut Reply<J>) -> Loaded
         ensures place { place.new ≡ place.old }
         ensures same { (self.new.seat ≡ self.old.seat) × (self.new.ticks ≡ self.old.ticks) }
@@ -161,9 +149,9 @@ impl<J: JournalId, F: Families> Region<J, F> {
         self.load_after(heard, place.body())
     }
 
-    // Answers the request of a reply, which it holds, in its place, and records that it did, by one
-    // event; where memory is refused it does neither. RaiseSafe takes none.
-    pub(crate) fn answer_in(&mut self, place: &mut Reply<J>)
+    /// Answers the request of a reply, which it holds, and records that it did, by one event: the
+    /// reply then has the answer. Where memory is refused it does neither. RaiseSafe takes none.
+    pub fn take_in(&mut self, place: &mut Reply<J>)
         requires holds { Holds J.bounds self.old.seat place.old.request.body }
         ensures request { place.new.request ≡ place.old.request }
         ensures same { (self.new.seat ≡ self.old.seat) × (self.new.ticks ≡ self.old.ticks) }
@@ -190,8 +178,9 @@ impl<J: JournalId, F: Families> Region<J, F> {
         }
     }
 
-    // The same of a request that stands in no reply yet.
-    pub(crate) fn answer(&mut self, request: Request<J>) -> Reply<J>
+    /// The same of a request that stands in no reply yet: answers it, and records that it did, by
+    /// one event; where memory is refused it does neither. RaiseSafe takes none.
+    pub fn take(&mut self, request: Request<J>) -> Reply<J>
         requires holds { Holds J.bounds self.old.seat request.body }
         ensures request { result.request ≡ request }
         ensures same { (self.new.seat ≡ self.old.seat) × (self.new.ticks ≡ self.old.ticks) }
@@ -203,7 +192,7 @@ impl<J: JournalId, F: Families> Region<J, F> {
         let told = self.tell();
         told.show();
         let mut reply = Reply::new(request, None, told);
-        self.answer_in(&mut reply);
+        self.take_in(&mut reply);
         reply
     }
 }

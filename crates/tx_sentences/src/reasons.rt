@@ -336,7 +336,7 @@ pub fn why(
 fn cause_in_words(alloc: Global, kind: InputKind, cause: Cause) -> Result<String, AllocError> {
     match (kind, cause) {
         (InputKind::History, Cause::Form) => {
-            "the transaction does not go with those before it".to_string(alloc)
+            "the history is at fault here, as is told above".to_string(alloc)
         }
         _ => format!(in alloc; "{cause}"),
     }

@@ -120,17 +120,27 @@ fn put_outcome(out: &mut String, rest: &[Value]) -> Result<(), AllocError> {
     put_members(out, more)
 }
 
+// Appends how many there are of what is called so, in the plural where there is not one.
+fn put_count(out: &mut String, count: u64, noun: &str) -> Result<(), AllocError> {
+    put_number(out, count)?;
+    out.push_str(noun)?;
+    if count == 1 {
+        return Ok(());
+    }
+    out.push('s')
+}
+
 // Appends what a collection dropped.
 fn put_collected(out: &mut String, records: u64, values: u64) -> Result<(), AllocError> {
-    put_number(out, records)?;
-    put_stamp(out, " records, ", values)?;
-    out.push_str(" values dropped")
+    put_count(out, records, " record")?;
+    out.push_str(", ")?;
+    put_count(out, values, " value")?;
+    out.push_str(" dropped")
 }
 
 // Appends a count of regions.
 fn put_regions(out: &mut String, count: u64) -> Result<(), AllocError> {
-    put_number(out, count)?;
-    out.push_str(" regions")
+    put_count(out, count, " region")
 }
 
 // Appends a word and what stands behind it.

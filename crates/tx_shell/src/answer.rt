@@ -10,7 +10,9 @@ use std::io::{BufWriter, Read, Write};
 use std::sync::Wait;
 use std::thread::Threads;
 use tx_command::CommandEnd;
-use tx_streams::{Asking, Comments, Copied, Counted, Dropped, Erasing, Noting, Recent, Shared};
+use tx_streams::{
+    Asking, Comments, Copied, Counted, Dropped, Erasing, Escaping, Noting, Recent, Shared,
+};
 use tx_text::Broken;
 
 /// Does what is asked over an input and an output. What was written is handed on each time before
@@ -57,7 +59,8 @@ where
     O: Write + Drop,
 {
     let alloc = rt.alloc();
-    let Ok(writer) = BufWriter::new(alloc, Erasing::new(output, asked.progress)) else {
+    let output = Escaping::new(alloc, Erasing::new(output, asked.progress), asked.is_shown);
+    let Ok(writer) = BufWriter::new(alloc, output) else {
         return Err(Broken::Memory);
     };
     let shared = RefCell::new(writer);

@@ -12,6 +12,8 @@ pub(crate) struct Invocation<'a> {
     pub job: CommandLine<'a>,
     /// Whether a prompt is shown each time before more of the input is read.
     pub prompts: bool,
+    /// Whether what is written goes to a terminal.
+    pub is_shown: bool,
     pub progress: &'a ProgressLine,
 }
 

@@ -20,4 +20,4 @@ mod stats;
 mod steps;
 
 pub use more::MoreCommands;
-pub use program::txkv;
+pub use program::{terminal_width, txkv};

@@ -29,7 +29,8 @@ fn report(host: HostRuntime, played: &RunResult, elapsed: Duration) {
     let (requests, refusals) = (played.requests, played.refusals);
     let _ = eprint!(host; "{stats}");
     let _ = eprintln!(host; "txkv: refused: {requests}");
-    let _ = eprintln!(host; "txkv: {} locks asked after", requests.resolves);
+    let end = if requests.resolves == 1 { "" } else { "s" };
+    let _ = eprintln!(host; "txkv: {} lock{end} asked after", requests.resolves);
     let _ = eprintln!(host; "txkv: lines refused: {refusals}");
 }
 

@@ -12,8 +12,8 @@ use std::sync::Wait;
 use std::thread::Threads;
 use std::{env, fs, io};
 use tx_command::{
-    CommandEnd, CommandLine, Display, Terminals, job_of, message_of, parse, shown_at, status_of,
-    width_of,
+    CommandEnd, CommandLine, Display, Terminals, fault_text, fitted, job_of, message_of, parse,
+    shown_at, status_of, width_of,
 };
 use tx_hints::{escaped, wrapped};
 use tx_streams::ProgressLine;
@@ -72,8 +72,9 @@ fn words<R: Env + AllocGlobal>(rt: &R) -> io::Result<Vec<String>> {
     Ok(words)
 }
 
-// How many places a line of help has: as many as the terminal, where that is said.
-fn width<R: Env + AllocGlobal>(rt: &R) -> usize {
+/// How many places a line has at most that is shown at a terminal: as many as `COLUMNS` says of it,
+/// else 80.
+pub fn terminal_width<R: Env + AllocGlobal>(rt: &R) -> usize {
     match env::var(rt, "COLUMNS") {
         Ok(columns) => width_of(Some(columns.as_str())),
         Err(_) => width_of(None),
@@ -87,7 +88,7 @@ fn tell_fault<R: Eprint + AllocGlobal>(
     width: usize,
 ) -> Result<CommandEnd, Broken> {
     let alloc = rt.alloc();
-    let told = match format!(in alloc; "{error}") {
+    let told = match fault_text(alloc, error) {
         Ok(text) => wrapped(alloc, text.as_str(), width),
         Err(error) => Err(error),
     };
@@ -139,12 +140,14 @@ fn unread<R: Eprint + AllocGlobal>(rt: &R, error: &io::Error) -> Result<CommandE
     }
 }
 
-// Does a job, and shows on standard error what is to be seen of it meanwhile.
+// Does a job, and shows on standard error what is to be seen of it meanwhile. A terminal has lines
+// of so many places.
 fn start<R, M>(
     rt: &R,
     more: &M,
     host: HostRuntime,
     job: CommandLine<'_>,
+    width: usize,
 ) -> Result<CommandEnd, Broken>
 where
     R: Input + Files + Print + Eprint + AllocGlobal + Threads + Wait + Sync + Send + Clone + Drop,
@@ -155,12 +158,14 @@ where
         output: host.stdout().is_terminal(),
         error: host.stderr().is_terminal(),
     };
+    let job = fitted(job, terminals, width);
     let shown = shown_at(job, terminals);
     let progress = ProgressLine::new(host, shown == Display::ProgressLine);
     let asked = Invocation {
         host,
         job,
         prompts: shown == Display::Prompts,
+        is_shown: terminals.output,
         progress: &progress,
     };
     match run(rt, more, &asked) {
@@ -181,11 +186,11 @@ where
     M: MoreCommands,
 {
     let words = words(rt);
-    let width = width(rt);
+    let width = terminal_width(rt);
     let end = match words {
         Err(error) => unread(rt, &error),
         Ok(words) => match parse(rt.alloc(), words.as_slice(), width) {
-            Ok(matches) => start(rt, more, host, job_of(&matches)),
+            Ok(matches) => start(rt, more, host, job_of(&matches), width),
             Err(error) => report(rt, &error, width),
         },
     };

@@ -1,6 +1,7 @@
 //! The streams of a program that answers as it is asked: what was written is handed on before more
 //! is read; the faults among the lines that are written are noted, and what was read last is kept
-//! for who tells why; comments are passed over; and how far it has come is told.
+//! for who tells why; comments are passed over; how far it has come is told; and what goes to a
+//! terminal is safe there.
 #![tactic(auto)]
 
 mod comments;
@@ -10,6 +11,7 @@ mod live;
 mod progress;
 mod recent;
 mod steps;
+mod terminal;
 
 pub use comments::{Comments, Dropped};
 pub use copied::{Copied, first_lines};
@@ -18,3 +20,4 @@ pub use live::{Asking, Shared};
 pub use progress::{Counted, Erasing, ProgressLine};
 pub use recent::Recent;
 pub use steps::Steps;
+pub use terminal::Escaping;

@@ -89,10 +89,12 @@ impl ProgressLine {
     fn print(&self) -> io::Result<()> {
         let lines = self.lines.load(Ordering::SeqCst);
         let steps = self.steps.load(Ordering::SeqCst);
+        let line_end = if lines == 1 { "" } else { "s" };
+        let step_end = if steps == 1 { "" } else { "s" };
         if steps == 0 {
-            eprint!(self.rt; "\rtxkv: {lines} lines read")
+            eprint!(self.rt; "\rtxkv: {lines} line{line_end} read")
         } else {
-            eprint!(self.rt; "\rtxkv: {lines} lines read, {steps} steps made")
+            eprint!(self.rt; "\rtxkv: {lines} line{line_end} read, {steps} step{step_end} made")
         }
     }
 

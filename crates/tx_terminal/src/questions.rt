@@ -4,9 +4,9 @@ use memchr::memchr;
 use std::alloc::{AllocError, Global};
 use std::io::Write;
 use tx_cells::Fresh;
-use tx_command::{SIMULATE_HELP, topic};
+use tx_command::{SIMULATE_HELP, topic, topic_words};
 use tx_film::{RunQuestion, keys_of, lines_of};
-use tx_hints::escaped;
+use tx_hints::{escaped, meant};
 use tx_script::{Broken, Plain, simulate, simulate_checked};
 use tx_step_text::put_step;
 use tx_steps::{Line, Op, Program, Step};
@@ -16,7 +16,7 @@ use tx_types::Key;
 
 const QUESTIONS: &str = "At a terminal:
   A put a x     A step, as pictures show it, or as JSON: [\"put\",\"A\",\"a\",\"x\"]
-  :help WORD    What a step's word or a refusal is, as in :help commit, :help E5
+  :help WORD    A step, a delivery or a refusal: :help commit, :help hold
   :help         All steps, and these words
   :keys         What stands on each key: its lock, its records, its long values
   :sessions     The live sessions, each with its last line and the reply to it
@@ -78,18 +78,25 @@ pub(crate) fn asked_of(line: &[u8]) -> Asked<'_> {
     }
 }
 
-// What a step's word or a refusal is.
+// That there is no help on a word, and which word was meant.
+fn no_help(alloc: Global, word: &str) -> Result<String, AllocError> {
+    let known = topic_words(alloc)?;
+    let meant = meant(alloc, word, known.as_slice())?;
+    let more = if meant.is_empty() {
+        "; :help tells of all"
+    } else {
+        meant.as_str()
+    };
+    let word = escaped(alloc, word)?;
+    format!(in alloc; "{word} is no step, no delivery and no refusal{more}\n")
+}
+
+// What a step, a delivery or a refusal is.
 fn help_on(alloc: Global, word: &str) -> Result<Vec<u8>, Broken> {
-    let mut out = Vec::new(alloc);
     match topic(alloc, word)? {
-        Some(text) => out.extend_from_slice(text.as_bytes())?,
-        None => {
-            let word = escaped(alloc, word)?;
-            let none = format!(in alloc; "{word} is no step and no refusal\n")?;
-            out.extend_from_slice(none.as_bytes())?;
-        }
+        Some(text) => Ok(text.into_bytes()),
+        None => Ok(no_help(alloc, word)?.into_bytes()),
     }
-    Ok(out)
 }
 
 // Appends keys, each with what it was replied to its line behind the number.

@@ -10,3 +10,5 @@ pub mod Turns
 pub mod Parts
 -- The keys at the head of a buffer of which a phase has nothing left to send.
 pub mod Heads
+-- The table of a write buffer, behind the reference to it.
+pub mod Tables

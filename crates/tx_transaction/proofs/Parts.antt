@@ -139,14 +139,6 @@ noted (x ∷ es) zero v p e =
     same
 noted (x ∷ es) (suc i) v p e = ap (λ (l : Entries). x ∷ l) (noted es i v p e)
 
-pub progress_more : (few more : Entries) (i n : ℕ) (v : BufferEntry) (p : Progress) → n ≡ length few → n ≤ i
-    → Some v ≡ slice_get (values_of more) (i - n)
-    → few ++ set_value_at more (i - n) (record { mutation = v.mutation; progress = p }) ≡ with_progress
-    (few ++ more) i p
-progress_more few more i n v p e le is =
-    ap (λ (l : Entries). few ++ l) (noted more (i - n) v p is)
-    ∙ progress_behind few more i (i - n) p (omega (arith, e, le))
-
 item_progress : (few more : Entries) (i : ℕ) (v : Key × BufferEntry) → i < length few → v ≡ slice_index_or few i v
     → v.1.progress ≡ progress_at (few ++ more) i
 item_progress [] more i v lt is = absurd (omega (arith, lt))
@@ -169,17 +161,27 @@ marked_few f few more es i v p lt is made e =
     ∙ ap (with_progress (few ++ more) i) (made ∙ ap f (item_progress few more i v lt is))
     ∙ ap (λ l. with_progress l i (f (progress_at l i))) e
 
-pub marked_more : (f : Progress → Progress) (few more es : Entries) (i n : ℕ) (v : BufferEntry) (p : Progress)
-    → n ≡ length few → n ≤ i → Some v ≡ slice_get (values_of more) (i - n) → p ≡ f v.progress → few ++ more ≡ es
-    → few ++ set_value_at more (i - n) (record { mutation = v.mutation; progress = p }) ≡ with_progress es i
-    (f (progress_at es i))
-marked_more f few more es i n v p count le is made e =
+pub noted_as : (f : Progress → Progress) (es : Entries) (i : ℕ) (v : BufferEntry) (p : Progress)
+    → Some v ≡ slice_get (values_of es) i → p ≡ f v.progress
+    → set_value_at es i (record { mutation = v.mutation; progress = p }) ≡ with_progress es i (f (progress_at es i))
+noted_as f es i v p is made = noted es i v p is ∙ ap (with_progress es i) (made ∙ ap f (value_progress es i v is))
+
+-- the progress of an entry behind the first few
+pub set_behind : (few more es new : Entries) (i n : ℕ) (p : Progress) → n ≡ length few → n ≤ i → few ++ more ≡ es
+    → new ≡ with_progress more (i - n) p → few ++ new ≡ with_progress es i p
+set_behind few more es new i n p count le e is =
+    ap (λ (l : Entries). few ++ l) is ∙ progress_behind few more i (i - n) p (omega (arith, count, le))
+    ∙ ap (λ l. with_progress l i p) e
+
+pub marked_behind : (f : Progress → Progress) (few more es new : Entries) (i n : ℕ) → n ≡ length few → n ≤ i
+    → few ++ more ≡ es → new ≡ with_progress more (i - n) (f (progress_at more (i - n)))
+    → few ++ new ≡ with_progress es i (f (progress_at es i))
+marked_behind f few more es new i n count le e is =
     let at : i - n ≡ i - length few = omega (arith, count) in
-    let was : v.progress ≡ progress_at (few ++ more) i = value_progress more (i - n) v is
-    ∙ ap (progress_at more) at ∙ sym (progress_later few more i (omega (arith, count, le))) in
-    progress_more few more i n v p count le is
-    ∙ ap (with_progress (few ++ more) i) (made ∙ ap f was)
-    ∙ ap (λ l. with_progress l i (f (progress_at l i))) e
+    let was : progress_at more (i - n) ≡ progress_at es i = ap (progress_at more) at
+    ∙ sym (progress_later few more i (omega (arith, count, le))) ∙ ap (λ l. progress_at l i) e in
+    set_behind few more es new i n (f (progress_at more (i - n))) count le e is
+    ∙ ap (λ q. with_progress es i (f q)) was
 
 -- ---- what the two parts keep
 
@@ -198,10 +200,10 @@ pub room_set : (n : ℕ) (few more : Entries) (i : ℕ) (x : Key × BufferEntry)
 room_set n few more i x (inl e) = inl e
 room_set n few more i x (inr le) = inr (omega (arith, le, length_set few i x))
 
-pub room_value : (n : ℕ) (few more : Entries) (i : ℕ) (v : BufferEntry) → (more ≡ []) ⊎ (n ≤ length few)
-    → (set_value_at more i v ≡ []) ⊎ (n ≤ length few)
-room_value n few more i v (inl e) = inl (ap (λ (l : Entries). set_value_at l i v) e)
-room_value n few more i v (inr le) = inr le
+pub room_behind : (n : ℕ) (few more new : Entries) (j : ℕ) (p : Progress) → (more ≡ []) ⊎ (n ≤ length few)
+    → new ≡ with_progress more j p → (new ≡ []) ⊎ (n ≤ length few)
+room_behind n few more new j p (inl e) is = inl (is ∙ ap (λ (l : Entries). with_progress l j p) e)
+room_behind n few more new j p (inr le) is = inr le
 
 -- each key stands once, and so it is after one was touched, or as far as another
 pub distinct_by : (es fs : Entries) (k : Key) (m : Mutation) → IsDistinct (changes_of es) → fs ≡ touched es k m

@@ -4,3 +4,4 @@ pub mod Next
 pub mod Returns
 pub mod Turns
 pub mod Heads
+pub mod Tables

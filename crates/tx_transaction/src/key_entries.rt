@@ -7,9 +7,8 @@ ghost use Rattle.tx_transaction.specs.Buffers.{buffered, changes_of, key_at, pro
 ghost use Rattle.tx_transaction.specs.Sessions.{marked_by, sent_by};
 
 use crate::answers::mark;
-use crate::settled::Settled;
+use crate::key_table::KeyTable;
 use crate::state::{BufferEntry, Phase, Progress};
-use indexmap::IndexMap;
 use std::alloc::Global;
 use std::marker::Model;
 use tx_core::Answer;
@@ -60,34 +59,26 @@ pub(crate) struct KeyEntries {
     /// The first of them, which are compared one by one.
     few: Vec<(Key, BufferEntry)>,
     /// Those behind them: none while there is room among the few.
-    more: IndexMap<Key, BufferEntry>,
-    /// Those of the table, from the first on, of which a phase has nothing left to send.
-    settled: Settled,
+    more: KeyTable,
 }
 
 impl Model for KeyEntries {
     ghost use Rattle.std.specs.Prelude.{◌≡◌, ◌≤◌, ◌++◌, ◌⊎◌, [], length};
     ghost use Rattle.tx_machine.specs.Keys.{IsDistinct};
     ghost use Rattle.tx_transaction.specs.Buffers.{Entries, changes_of};
-    ghost use Rattle.tx_transaction.specs.Heads.{IsSettled};
     ghost use Rattle.tx_transaction.specs.declared.key_entries.TheConstants.{FEW};
 
     ghost Value = { Entries };
 
-    ghost view = { λ b. b.few.items ++ b.more.entries };
+    ghost view = { λ b. b.few.items ++ b.more };
 
-    ghost invariant = { λ b. IsDistinct (changes_of (b.few.items ++ b.more.entries))
-        × ((b.more.entries ≡ []) ⊎ (FEW ≤ length b.few.items))
-        × IsSettled b.settled b.more.entries };
+    ghost invariant = { λ b. IsDistinct (changes_of (b.few.items ++ b.more))
+        × ((b.more ≡ []) ⊎ (FEW ≤ length b.few.items)) };
 }
 
 impl Drop for KeyEntries {
     fn drop(self) {
-        let Self {
-            few: _,
-            more: _,
-            settled: _,
-        } = self;
+        let Self { few: _, more: _ } = self;
     }
 }
 
@@ -98,8 +89,7 @@ impl KeyEntries {
     {
         KeyEntries {
             few: Vec::new(alloc),
-            more: IndexMap::new(alloc),
-            settled: Settled::NONE,
+            more: KeyTable::new(),
         }
     }
 
@@ -141,13 +131,7 @@ impl KeyEntries {
         if let Some(i) = seek_few(self.few.as_slice(), key.as_bytes()) {
             return Some(&self.few[i].1.mutation);
         }
-        if self.more.is_empty() {
-            return None;
-        }
-        match self.more.get(key) {
-            Some(entry) => Some(&entry.mutation),
-            None => None,
-        }
+        self.more.find(key)
     }
 
     // As `put`, where the few are full.
@@ -211,8 +195,8 @@ impl KeyEntries {
             self.few.push((key, entry))?;
             return Ok(());
         }
-        self.more.insert(key, entry)?;
-        self.settled = Settled::NONE;
+        let alloc = *self.few.allocator();
+        self.more.insert(alloc, key, entry)?;
         Ok(())
     }
 
@@ -224,7 +208,7 @@ impl KeyEntries {
             → wants phase (progress_at self.now k) ≡ false }
     {
         let few = self.few.len();
-        let keys = self.settled.keys(phase);
+        let keys = self.more.settled(phase);
         (few, few.saturating_add(keys))
     }
 
@@ -236,11 +220,11 @@ impl KeyEntries {
         let few = self.few.len();
         if i < few {
             self.few[i].1.progress = progress;
-        } else if let Some(entry) = self.more.get_index_mut(i - few) {
-            self.settled = self.settled.after(phase, i - few, &progress);
-            entry.progress = progress;
+        } else {
+            self.more.set_progress(phase, i - few, progress);
         }
     }
+
     /// Marks what an answer says of the key at an index, of which the phase sent a request, where
     /// its progress is kept.
     pub(crate) fn mark(&mut self, phase: Phase, i: usize, answer: &Answer)
@@ -251,9 +235,8 @@ impl KeyEntries {
         let few = self.few.len();
         if i < few {
             mark(phase, answer, &mut self.few[i].1.progress);
-        } else if let Some(entry) = self.more.get_index_mut(i - few) {
-            mark(phase, answer, &mut entry.progress);
-            self.settled = self.settled.after(phase, i - few, &entry.progress);
+        } else {
+            self.more.mark(phase, i - few, answer);
         }
     }
 }

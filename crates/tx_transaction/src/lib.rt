@@ -5,6 +5,7 @@
 mod answers;
 mod buffer;
 mod key_entries;
+mod key_table;
 mod laws;
 mod settled;
 mod state;

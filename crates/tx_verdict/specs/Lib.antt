@@ -1,3 +1,4 @@
+pub mod Cases
 pub mod Facts
 pub mod Fits
 pub mod Forced

@@ -1,16 +1,16 @@
 //! What stands round a value that was seen.
 ghost use Rattle.std.specs.Prelude.{◌≡◌, ◌≢◌, ℕ, ◌<◌, List, ◌++◌, length, false, IfOk, IfSome, IfNone, slice_index};
-ghost use Rattle.tx_recording.specs.Recordings.{IsRecording, list_of};
-ghost use Rattle.tx_views.specs.Owners.{AreOwners};
+ghost use Rattle.tx_recording.specs.Recordings.{list_of};
 ghost use Rattle.tx_views.specs.Views.{IsViewOf};
+ghost use Rattle.tx_verdict.specs.Cases.{IsCase};
 ghost use Rattle.tx_verdict.specs.Facts.{IsTornBy, IsDistinct};
 ghost use Rattle.tx_verdict.specs.Verdicts.{IsWrong};
 
+use crate::case::Case;
 use crate::owners::owner_of;
 use crate::verdict::{Fact, Rule};
 use std::alloc::{AllocError, Global};
-use tx_recording::Recording;
-use tx_views::{Effect, Owner, RecordedView, effect_of};
+use tx_views::{Effect, RecordedView, effect_of};
 
 // The first place of a value.
 fn place_in(values: &[u32], value: u32) -> Option<usize>
@@ -56,27 +56,25 @@ fn is_whole(list: &[u32], effect: &Effect, i: usize) -> bool
 /// another one there, or more before or behind it.
 pub(crate) fn wrong_block(
     alloc: Global,
-    recording: &Recording,
-    owners: &[Option<Owner>],
+    case: &Case<'_>,
     view: RecordedView,
     list: &[u32],
     i: usize,
 ) -> Result<Option<Fact>, AllocError>
-    requires recording { IsRecording recording.now }
-    requires owners { AreOwners recording.now owners.now }
-    requires view { IsViewOf recording.now view }
-    requires list { list.now ≡ list_of recording.now view.span }
+    requires case { IsCase case.now }
+    requires view { IsViewOf case.now.recording.now view }
+    requires list { list.now ≡ list_of case.now.recording.now view.span }
     requires within { i < length list.now }
-    ensures { IfOk result (λ found. IfSome found (IsWrong recording.now)) }
+    ensures { IfOk result (λ found. IfSome found (IsWrong case.now.recording.now)) }
 {
     let value = list[i];
-    let Some(owner) = owner_of(owners, value) else {
+    let Some(owner) = owner_of(case.owners, value) else {
         return Ok(None);
     };
-    if owner.txn as usize >= recording.transactions.len() {
+    if owner.txn as usize >= case.recording.transactions.len() {
         return Ok(None);
     }
-    let effect = effect_of(alloc, recording.ops_of(owner.txn as usize), view.key)?;
+    let effect = effect_of(alloc, case.recording.ops_of(owner.txn as usize), view.key)?;
     if is_whole(list, &effect, i) {
         return Ok(None);
     }

@@ -1,18 +1,18 @@
 //! Whether the versions of a chain are known to be committed one after the other.
-ghost use Rattle.std.specs.Prelude.{◌≡◌, ◌≢◌, ◌⊎◌, ℕ, ◌+◌, ◌<◌, ◌≤◌, length, Contains, ◌&&◌, IfOk, IsTrue, slice_index};
-ghost use Rattle.tx_recording.specs.Recordings.{IsRecording};
+ghost use Rattle.std.specs.Prelude.{◌≡◌, ◌≢◌, ◌⊎◌, ℕ, ◌+◌, ◌<◌, ◌≤◌, length, ◌&&◌, IfOk, IsTrue, slice_index};
 ghost use Rattle.tx_views.specs.declared.view.RecordedView.{RecordedView};
 ghost use Rattle.tx_views.specs.Views.{IsViewOf};
-ghost use Rattle.tx_views.specs.Owners.{AreOwners};
 ghost use Rattle.tx_history.specs.Records.{IsRecorded, writers_of};
+ghost use Rattle.tx_verdict.specs.Cases.{IsCase};
 ghost use Rattle.tx_verdict.specs.Reasons.{AddsFirst, IsBased};
 ghost use Rattle.tx_verdict.specs.Forced.{IsLinked, AreWriters};
 
+use crate::case::Case;
 use crate::owners::{is_by, sees_nothing, sees_writer};
 use crate::versions::{Base, Versions};
 use std::alloc::{AllocError, Global};
-use tx_recording::{RecordedOp, Recording};
-use tx_views::{Owner, RecordedView, effect_of};
+use tx_recording::RecordedOp;
+use tx_views::{RecordedView, effect_of};
 
 // Whether operations append to a key, and this value first.
 fn is_first(alloc: Global, ops: &[RecordedOp], key: u32, value: u32) -> Result<bool, AllocError>
@@ -33,21 +33,19 @@ fn is_first(alloc: Global, ops: &[RecordedOp], key: u32, value: u32) -> Result<b
 // stands in front of it was put last by the one before, or nothing does before the first.
 fn is_within(
     alloc: Global,
-    recording: &Recording,
-    owners: &[Option<Owner>],
+    case: &Case<'_>,
     view: RecordedView,
     place: usize,
     key: u32,
     writers: &[u32],
     i: usize,
 ) -> Result<bool, AllocError>
-    requires recording { IsRecording recording.now }
-    requires owners { AreOwners recording.now owners.now }
-    requires view { IsViewOf recording.now view }
+    requires case { IsCase case.now }
+    requires view { IsViewOf case.now.recording.now view }
     requires within { i < length writers.now }
-    ensures { IfOk result (λ is. IsTrue is → IsBased recording.now key writers.now i) }
+    ensures { IfOk result (λ is. IsTrue is → IsBased case.now.recording.now key writers.now i) }
 {
-    let list = recording.list_of(view.span);
+    let list = case.recording.list_of(view.span);
     let writer = writers[i];
     if view.key != key {
         return Ok(false);
@@ -55,10 +53,15 @@ fn is_within(
     if place >= list.len() {
         return Ok(false);
     }
-    if writer as usize >= recording.transactions.len() {
+    if writer as usize >= case.recording.transactions.len() {
         return Ok(false);
     }
-    if !is_first(alloc, recording.ops_of(writer as usize), key, list[place])? {
+    if !is_first(
+        alloc,
+        case.recording.ops_of(writer as usize),
+        key,
+        list[place],
+    )? {
         return Ok(false);
     }
     if i == 0 {
@@ -67,65 +70,53 @@ fn is_within(
     if place == 0 {
         return Ok(false);
     }
-    Ok(is_by(owners, list[place - 1], writers[i - 1]))
+    Ok(is_by(case.owners, list[place - 1], writers[i - 1]))
 }
 
 // Whether the writer of a version is known to have seen the one before it, or nothing before the
 // first, by a view of its own.
-fn is_viewed(
-    recording: &Recording,
-    owners: &[Option<Owner>],
-    view: RecordedView,
-    key: u32,
-    writers: &[u32],
-    i: usize,
-) -> bool
-    requires owners { AreOwners recording.now owners.now }
-    requires view { IsViewOf recording.now view }
+fn is_viewed(case: &Case<'_>, view: RecordedView, key: u32, writers: &[u32], i: usize) -> bool
+    requires case { IsCase case.now }
+    requires view { IsViewOf case.now.recording.now view }
     requires within { i < length writers.now }
-    ensures { IsTrue result → IsBased recording.now key writers.now i }
+    ensures { IsTrue result → IsBased case.now.recording.now key writers.now i }
 {
     if i == 0 {
-        return sees_nothing(recording, view, writers[0], key);
+        return sees_nothing(case.recording, view, writers[0], key);
     }
-    sees_writer(recording, owners, view, writers[i], key, writers[i - 1])
+    sees_writer(case, view, writers[i], key, writers[i - 1])
 }
 
 /// Whether the writer of a version is known to have seen the one before it, or nothing before the
 /// first.
 pub(crate) fn is_based(
     alloc: Global,
-    recording: &Recording,
-    owners: &[Option<Owner>],
-    views: &[RecordedView],
+    case: &Case<'_>,
     base: Base,
     key: u32,
     writers: &[u32],
     i: usize,
 ) -> Result<bool, AllocError>
-    requires recording { IsRecording recording.now }
-    requires owners { AreOwners recording.now owners.now }
-    requires views { (v : RecordedView) → Contains views.now v → IsViewOf recording.now v }
+    requires case { IsCase case.now }
     requires within { i < length writers.now }
-    ensures { IfOk result (λ is. IsTrue is → IsBased recording.now key writers.now i) }
+    ensures { IfOk result (λ is. IsTrue is → IsBased case.now.recording.now key writers.now i) }
 {
     match base {
         Base::Blind => Ok(false),
         Base::View(view) => {
-            if view as usize >= views.len() {
+            if view as usize >= case.views.len() {
                 return Ok(false);
             }
-            Ok(is_viewed(recording, owners, views[view as usize], key, writers, i))
+            Ok(is_viewed(case, case.views[view as usize], key, writers, i))
         }
         Base::Within(view, place) => {
-            if view as usize >= views.len() {
+            if view as usize >= case.views.len() {
                 return Ok(false);
             }
             is_within(
                 alloc,
-                recording,
-                owners,
-                views[view as usize],
+                case,
+                case.views[view as usize],
                 place as usize,
                 key,
                 writers,
@@ -172,26 +163,22 @@ fn both(one: bool, other: bool) -> bool
 /// latter saw it, or it saw none of those before it, which all saw one another.
 pub(crate) fn is_chain(
     alloc: Global,
-    recording: &Recording,
-    owners: &[Option<Owner>],
-    views: &[RecordedView],
+    case: &Case<'_>,
     versions: &Versions,
     chain: u32,
     key: u32,
 ) -> Result<bool, AllocError>
-    requires recording { IsRecording recording.now }
-    requires owners { AreOwners recording.now owners.now }
-    requires views { (v : RecordedView) → Contains views.now v → IsViewOf recording.now v }
+    requires case { IsCase case.now }
     requires history { IsRecorded versions.now.recorded }
-    requires writers { AreWriters recording.now key (writers_of versions.now.recorded chain) }
+    requires writers { AreWriters case.now.recording.now key (writers_of versions.now.recorded chain) }
     ensures { IfOk result (λ is. IsTrue is → (i : ℕ) → i + 1 < length (writers_of versions.now.recorded chain)
-        → IsLinked recording.now key (writers_of versions.now.recorded chain) i) }
+        → IsLinked case.now.recording.now key (writers_of versions.now.recorded chain) i) }
 {
     let writers = versions.recorded.writers_of(chain as usize);
     let mut known = true;
     for i in 0..writers.len() {
         let base = versions.base_of(chain as usize, i);
-        let based = is_based(alloc, recording, owners, views, base, key, writers, i)?;
+        let based = is_based(alloc, case, base, key, writers, i)?;
         if !is_next(writers, i, known, based) {
             return Ok(false);
         }

@@ -1,21 +1,22 @@
 //! What one transaction saw that nothing explains.
-ghost use Rattle.std.specs.Prelude.{◌≡◌, ℕ, ◌<◌, length, Contains, Some, IfOk, IfSome, IsTrue};
+ghost use Rattle.std.specs.Prelude.{◌≡◌, ℕ, ◌<◌, length, Some, IfOk, IfSome, IsTrue};
 ghost use Rattle.tx_recording.specs.declared.recording.RecordedOutcome.TheVariants.{Fail as Failed};
 ghost use Rattle.tx_recording.specs.Recordings.{IsRecording, transaction_at, ops_of, list_of};
 ghost use Rattle.tx_recording.specs.Explanations.{PutsIn};
 ghost use Rattle.tx_views.specs.declared.view.RecordedView.{RecordedView};
 ghost use Rattle.tx_views.specs.Views.{IsInternal, IsViewOf};
-ghost use Rattle.tx_views.specs.Owners.{AreOwners};
+ghost use Rattle.tx_verdict.specs.Cases.{IsCase};
 ghost use Rattle.tx_verdict.specs.Verdicts.{IsWrong};
 
 use crate::block::wrong_block;
+use crate::case::Case;
 use crate::fit::puts;
 use crate::owners::owner_of;
 use crate::verdict::{Fact, Rule};
 use crate::versions::LostUpdate;
 use std::alloc::{AllocError, Global};
 use tx_recording::{RecordedOutcome, Recording};
-use tx_views::{Owner, RecordedView, is_end};
+use tx_views::{RecordedView, is_end};
 
 // A fact about a value of a view.
 fn fact_of(rule: Rule, view: RecordedView, value: u32, by: Option<u32>) -> Fact
@@ -44,24 +45,18 @@ fn is_failed(recording: &Recording, txn: u32) -> bool
 }
 
 // What is wrong with a value that was seen, by who put it.
-fn wrong_value(
-    recording: &Recording,
-    owners: &[Option<Owner>],
-    view: RecordedView,
-    list: &[u32],
-    i: usize,
-) -> Option<Fact>
-    requires owners { AreOwners recording.now owners.now }
-    requires view { IsViewOf recording.now view }
-    requires list { list.now ≡ list_of recording.now view.span }
+fn wrong_value(case: &Case<'_>, view: RecordedView, list: &[u32], i: usize) -> Option<Fact>
+    requires case { IsCase case.now }
+    requires view { IsViewOf case.now.recording.now view }
+    requires list { list.now ≡ list_of case.now.recording.now view.span }
     requires within { i < length list.now }
-    ensures { IfSome result (IsWrong recording.now) }
+    ensures { IfSome result (IsWrong case.now.recording.now) }
 {
     let value = list[i];
-    let Some(owner) = owner_of(owners, value) else {
+    let Some(owner) = owner_of(case.owners, value) else {
         return Some(fact_of(Rule::Unwritten, view, value, None));
     };
-    if is_failed(recording, owner.txn) {
+    if is_failed(case.recording, owner.txn) {
         return Some(fact_of(Rule::G1a, view, value, Some(owner.txn)));
     }
     if owner.txn == view.txn {
@@ -73,18 +68,16 @@ fn wrong_value(
 // What is wrong with what was seen.
 fn wrong_view(
     alloc: Global,
-    recording: &Recording,
-    owners: &[Option<Owner>],
+    case: &Case<'_>,
     view: RecordedView,
 ) -> Result<Option<Fact>, AllocError>
-    requires recording { IsRecording recording.now }
-    requires owners { AreOwners recording.now owners.now }
-    requires view { IsViewOf recording.now view }
-    ensures { IfOk result (λ found. IfSome found (IsWrong recording.now)) }
+    requires case { IsCase case.now }
+    requires view { IsViewOf case.now.recording.now view }
+    ensures { IfOk result (λ found. IfSome found (IsWrong case.now.recording.now)) }
 {
-    let list = recording.list_of(view.span);
+    let list = case.recording.list_of(view.span);
     for i in 0..list.len() {
-        let found = wrong_value(recording, owners, view, list, i);
+        let found = wrong_value(case, view, list, i);
         if found.is_some() {
             return Ok(found);
         }
@@ -92,7 +85,7 @@ fn wrong_view(
     if list.is_empty() {
         return Ok(None);
     }
-    wrong_block(alloc, recording, owners, view, list, list.len() - 1)
+    wrong_block(alloc, case, view, list, list.len() - 1)
 }
 
 // What is wrong with a view beside another one of the same transaction.
@@ -146,26 +139,19 @@ fn note(table: &mut [Option<u32>], key: u32, view: usize) {
 }
 
 /// What is wrong with something that was seen, by itself or beside what its transaction saw before.
-pub fn wrong_views(
-    alloc: Global,
-    recording: &Recording,
-    owners: &[Option<Owner>],
-    views: &[RecordedView],
-) -> Result<Option<Fact>, AllocError>
-    requires recording { IsRecording recording.now }
-    requires owners { AreOwners recording.now owners.now }
-    requires views { (v : RecordedView) → Contains views.now v → IsViewOf recording.now v }
-    ensures { IfOk result (λ found. IfSome found (IsWrong recording.now)) }
+pub fn wrong_views(alloc: Global, case: &Case<'_>) -> Result<Option<Fact>, AllocError>
+    requires case { IsCase case.now }
+    ensures { IfOk result (λ found. IfSome found (IsWrong case.now.recording.now)) }
 {
-    let mut table = vec![in alloc; None; recording.keys as usize]?;
-    for i in 0..views.len() {
-        let view = views[i];
-        let found = wrong_view(alloc, recording, owners, view)?;
+    let mut table = vec![in alloc; None; case.recording.keys as usize]?;
+    for i in 0..case.views.len() {
+        let view = case.views[i];
+        let found = wrong_view(alloc, case, view)?;
         if found.is_some() {
             return Ok(found);
         }
-        let found = match view_before(views, table.as_slice(), view.key) {
-            Some(before) => wrong_again(recording, views[before], view),
+        let found = match view_before(case.views, table.as_slice(), view.key) {
+            Some(before) => wrong_again(case.recording, case.views[before], view),
             None => None,
         };
         if found.is_some() {
@@ -190,28 +176,21 @@ fn is_same(recording: &Recording, one: RecordedView, other: RecordedView) -> boo
 }
 
 /// Two transactions that saw the same in a key, and both put something there.
-pub fn wrong_update(
-    recording: &Recording,
-    owners: &[Option<Owner>],
-    views: &[RecordedView],
-    lost: LostUpdate,
-) -> Option<Fact>
-    requires recording { IsRecording recording.now }
-    requires owners { AreOwners recording.now owners.now }
-    requires views { (v : RecordedView) → Contains views.now v → IsViewOf recording.now v }
-    ensures { IfSome result (IsWrong recording.now) }
+pub fn wrong_update(case: &Case<'_>, lost: LostUpdate) -> Option<Fact>
+    requires case { IsCase case.now }
+    ensures { IfSome result (IsWrong case.now.recording.now) }
 {
     let first = lost.first as usize;
-    if first >= views.len() {
+    if first >= case.views.len() {
         return None;
     }
     let second = lost.second as usize;
-    if second >= views.len() {
+    if second >= case.views.len() {
         return None;
     }
-    let one = views[first];
-    let other = views[second];
-    let count = recording.transactions.len();
+    let one = case.views[first];
+    let other = case.views[second];
+    let count = case.recording.transactions.len();
     if one.txn as usize >= count {
         return None;
     }
@@ -224,14 +203,14 @@ pub fn wrong_update(
     if one.key != other.key {
         return None;
     }
-    if !is_same(recording, one, other) {
+    if !is_same(case.recording, one, other) {
         return None;
     }
-    let first_puts = is_update(recording, one);
+    let first_puts = is_update(case.recording, one);
     if !first_puts {
         return None;
     }
-    let second_puts = is_update(recording, other);
+    let second_puts = is_update(case.recording, other);
     if !second_puts {
         return None;
     }

@@ -1,14 +1,12 @@
 //! Why a step of a round is so.
-ghost use Rattle.std.specs.Prelude.{◌≡◌, Contains, Some, IfOk, IfSome, IsTrue};
-ghost use Rattle.tx_recording.specs.Recordings.{IsRecording};
-ghost use Rattle.tx_views.specs.declared.view.RecordedView.{RecordedView};
-ghost use Rattle.tx_views.specs.Views.{IsViewOf};
-ghost use Rattle.tx_views.specs.Owners.{AreOwners};
+ghost use Rattle.std.specs.Prelude.{◌≡◌, Some, IfOk, IfSome, IsTrue};
 ghost use Rattle.tx_history.specs.Records.{IsRecorded};
-ghost use Rattle.tx_verdict.specs.Reasons.{SawOf, HasMissed, IsBehind};
+ghost use Rattle.tx_verdict.specs.Cases.{IsCase};
+ghost use Rattle.tx_verdict.specs.Reasons.{SawOf, IsBehind};
 ghost use Rattle.tx_verdict.specs.Steps.{IsStep};
-ghost use Rattle.tx_verdict.specs.Refutations.{AreOrders, IsOrdered, IsStepBy};
+ghost use Rattle.tx_verdict.specs.Refutations.{IsOrdered, IsStepBy};
 
+use crate::case::Case;
 use crate::owners::{sees_nothing, sees_writer};
 use crate::refutation::WriteOrder;
 use crate::steps::{step_in_process, step_in_time};
@@ -16,8 +14,6 @@ use crate::stretch::{Stretch, has_written, is_behind_in, is_next_in, is_train};
 use crate::verdict::{CycleStep, EdgeKind};
 use crate::versions::Versions;
 use std::alloc::{AllocError, Global};
-use tx_recording::{Orders, Recording};
-use tx_views::{Owner, RecordedView};
 
 /// Of two versions of a key, why the second was written behind the first.
 #[derive(Clone, Copy, Debug, PartialEq, Eq)]
@@ -47,23 +43,14 @@ pub enum Ground {
 }
 
 // Whether a view is of what the writer left.
-fn is_seen(
-    recording: &Recording,
-    owners: &[Option<Owner>],
-    views: &[RecordedView],
-    view: u32,
-    txn: u32,
-    key: u32,
-    writer: u32,
-) -> bool
-    requires owners { AreOwners recording.now owners.now }
-    requires views { (v : RecordedView) → Contains views.now v → IsViewOf recording.now v }
-    ensures { IsTrue result → SawOf recording.now txn key writer }
+fn is_seen(case: &Case<'_>, view: u32, txn: u32, key: u32, writer: u32) -> bool
+    requires case { IsCase case.now }
+    ensures { IsTrue result → SawOf case.now.recording.now txn key writer }
 {
-    if view as usize >= views.len() {
+    if view as usize >= case.views.len() {
         return false;
     }
-    sees_writer(recording, owners, views[view as usize], txn, key, writer)
+    sees_writer(case, case.views[view as usize], txn, key, writer)
 }
 
 // The key of a step with this edge.
@@ -79,9 +66,7 @@ fn key_with(step: CycleStep, edge: EdgeKind) -> Option<u32>
 // Whether the order at a place is of these two, over stretches.
 fn is_ordered(
     alloc: Global,
-    recording: &Recording,
-    owners: &[Option<Owner>],
-    views: &[RecordedView],
+    case: &Case<'_>,
     versions: &Versions,
     known: &[WriteOrder],
     place: u32,
@@ -91,11 +76,9 @@ fn is_ordered(
     first: u32,
     second: u32,
 ) -> Result<bool, AllocError>
-    requires recording { IsRecording recording.now }
-    requires owners { AreOwners recording.now owners.now }
-    requires views { (v : RecordedView) → Contains views.now v → IsViewOf recording.now v }
+    requires case { IsCase case.now }
     requires history { IsRecorded versions.now.recorded }
-    ensures { IfOk result (λ is. IsTrue is → IsOrdered recording.now known.now key first second) }
+    ensures { IfOk result (λ is. IsTrue is → IsOrdered case.now.recording.now known.now key first second) }
 {
     if place as usize >= known.len() {
         return Ok(false);
@@ -106,9 +89,7 @@ fn is_ordered(
     }
     if !is_train(
         alloc,
-        recording,
-        owners,
-        views,
+        case,
         versions,
         forth,
         key,
@@ -120,9 +101,7 @@ fn is_ordered(
     }
     let behind = is_train(
         alloc,
-        recording,
-        owners,
-        views,
+        case,
         versions,
         back,
         key,
@@ -136,32 +115,24 @@ fn is_ordered(
 // Whether the second of two wrote the key behind the first by the recording.
 fn is_behind(
     alloc: Global,
-    recording: &Recording,
-    owners: &[Option<Owner>],
-    views: &[RecordedView],
+    case: &Case<'_>,
     versions: &Versions,
     behind: Behind,
     key: u32,
     first: u32,
     second: u32,
 ) -> Result<bool, AllocError>
-    requires recording { IsRecording recording.now }
-    requires owners { AreOwners recording.now owners.now }
-    requires views { (v : RecordedView) → Contains views.now v → IsViewOf recording.now v }
+    requires case { IsCase case.now }
     requires history { IsRecorded versions.now.recorded }
-    ensures { IfOk result (λ is. IsTrue is → IsBehind recording.now key first second) }
+    ensures { IfOk result (λ is. IsTrue is → IsBehind case.now.recording.now key first second) }
 {
     match behind {
         Behind::Next(chain, place) => {
-            let is = is_next_in(
-                alloc, recording, owners, views, versions, chain, place, key, first, second,
-            )?;
+            let is = is_next_in(alloc, case, versions, chain, place, key, first, second)?;
             Ok(is)
         }
         Behind::Row(chain, count) => {
-            let is = is_behind_in(
-                alloc, recording, owners, views, versions, chain, count, key, first, second,
-            )?;
+            let is = is_behind_in(alloc, case, versions, chain, count, key, first, second)?;
             Ok(is)
         }
         Behind::Known(..) => Ok(false),
@@ -169,137 +140,104 @@ fn is_behind(
 }
 
 // Whether the second saw what the first left.
-fn is_read(
-    recording: &Recording,
-    owners: &[Option<Owner>],
-    views: &[RecordedView],
-    orders: Orders,
-    step: CycleStep,
-    view: u32,
-) -> bool
-    requires owners { AreOwners recording.now owners.now }
-    requires views { (v : RecordedView) → Contains views.now v → IsViewOf recording.now v }
-    ensures { IsTrue result → IsStep recording.now orders step }
+fn is_read(case: &Case<'_>, step: CycleStep, view: u32) -> bool
+    requires case { IsCase case.now }
+    ensures { IsTrue result → IsStep case.now.recording.now case.now.question.orders step }
 {
     let Some(key) = key_with(step, EdgeKind::Wr) else {
         return false;
     };
-    is_seen(recording, owners, views, view, step.to, key, step.from)
+    is_seen(case, view, step.to, key, step.from)
 }
 
 // Whether the second wrote behind the first.
 fn is_written(
     alloc: Global,
-    recording: &Recording,
-    owners: &[Option<Owner>],
-    views: &[RecordedView],
+    case: &Case<'_>,
     versions: &Versions,
-    orders: Orders,
     known: &[WriteOrder],
     step: CycleStep,
     behind: Behind,
 ) -> Result<bool, AllocError>
-    requires recording { IsRecording recording.now }
-    requires owners { AreOwners recording.now owners.now }
-    requires views { (v : RecordedView) → Contains views.now v → IsViewOf recording.now v }
+    requires case { IsCase case.now }
     requires history { IsRecorded versions.now.recorded }
-    ensures { IfOk result (λ is. IsTrue is → IsStepBy recording.now orders known.now step) }
+    ensures { IfOk result (λ is. IsTrue is → IsStepBy case.now.recording.now case.now.question.orders known.now step) }
 {
     let Some(key) = key_with(step, EdgeKind::Ww) else {
         return Ok(false);
     };
     if let Behind::Known(place, forth, back) = behind {
         let is = is_ordered(
-            alloc, recording, owners, views, versions, known, place, forth, back, key, step.from,
-            step.to,
+            alloc, case, versions, known, place, forth, back, key, step.from, step.to,
         )?;
         return Ok(is);
     }
-    if !has_written(recording, owners, views, versions, step.from, key) {
+    if !has_written(case, versions, step.from, key) {
         return Ok(false);
     }
-    if !has_written(recording, owners, views, versions, step.to, key) {
+    if !has_written(case, versions, step.to, key) {
         return Ok(false);
     }
-    let is = is_behind(
-        alloc, recording, owners, views, versions, behind, key, step.from, step.to,
-    )?;
+    let is = is_behind(alloc, case, versions, behind, key, step.from, step.to)?;
     Ok(is)
 }
 
 // Whether the first saw nothing, and the second wrote.
-fn is_before_all(
-    recording: &Recording,
-    owners: &[Option<Owner>],
-    views: &[RecordedView],
-    versions: &Versions,
-    orders: Orders,
-    step: CycleStep,
-    view: u32,
-) -> bool
-    requires recording { IsRecording recording.now }
-    requires owners { AreOwners recording.now owners.now }
-    requires views { (v : RecordedView) → Contains views.now v → IsViewOf recording.now v }
-    ensures { IsTrue result → IsStep recording.now orders step }
+fn is_before_all(case: &Case<'_>, versions: &Versions, step: CycleStep, view: u32) -> bool
+    requires case { IsCase case.now }
+    ensures { IsTrue result → IsStep case.now.recording.now case.now.question.orders step }
 {
     let Some(key) = key_with(step, EdgeKind::Rw) else {
         return false;
     };
-    if !has_written(recording, owners, views, versions, step.to, key) {
+    if !has_written(case, versions, step.to, key) {
         return false;
     }
-    if view as usize >= views.len() {
+    if view as usize >= case.views.len() {
         return false;
     }
-    sees_nothing(recording, views[view as usize], step.from, key)
+    sees_nothing(case.recording, case.views[view as usize], step.from, key)
 }
 
 // Whether the first saw what the writer left, and the second wrote behind that.
 fn is_missed(
     alloc: Global,
-    recording: &Recording,
-    owners: &[Option<Owner>],
-    views: &[RecordedView],
+    case: &Case<'_>,
     versions: &Versions,
-    orders: Orders,
     known: &[WriteOrder],
     step: CycleStep,
     view: u32,
     writer: u32,
     behind: Behind,
 ) -> Result<bool, AllocError>
-    requires recording { IsRecording recording.now }
-    requires owners { AreOwners recording.now owners.now }
-    requires views { (v : RecordedView) → Contains views.now v → IsViewOf recording.now v }
+    requires case { IsCase case.now }
     requires history { IsRecorded versions.now.recorded }
-    ensures { IfOk result (λ is. IsTrue is → IsStepBy recording.now orders known.now step) }
+    ensures { IfOk result (λ is. IsTrue is → IsStepBy case.now.recording.now case.now.question.orders known.now step) }
 {
     let Some(key) = key_with(step, EdgeKind::Rw) else {
         return Ok(false);
     };
-    if !is_seen(recording, owners, views, view, step.from, key, writer) {
+    if !is_seen(case, view, step.from, key, writer) {
         return Ok(false);
     }
     if let Behind::Known(place, forth, back) = behind {
         let is = is_ordered(
-            alloc, recording, owners, views, versions, known, place, forth, back, key, writer,
-            step.to,
+            alloc, case, versions, known, place, forth, back, key, writer, step.to,
         )?;
         return Ok(is);
     }
-    if !has_written(recording, owners, views, versions, step.to, key) {
+    if !has_written(case, versions, step.to, key) {
         return Ok(false);
     }
-    let is = is_behind(
-        alloc, recording, owners, views, versions, behind, key, writer, step.to,
-    )?;
+    let is = is_behind(alloc, case, versions, behind, key, writer, step.to)?;
     Ok(is)
 }
 
 // Whether the orders that are asked for have it so.
-fn is_asked(recording: &Recording, orders: Orders, step: CycleStep) -> bool
-    ensures { IsTrue result → IsStep recording.now orders step }
+fn is_asked(case: &Case<'_>, step: CycleStep) -> bool
+    ensures { IsTrue result → IsStep case.now.recording.now case.now.question.orders step }
 {
+    let (recording, orders) = (case.recording, case.question.orders);
     let found = match step.edge {
         EdgeKind::So => step_in_process(recording, orders, step.from, step.to),
         EdgeKind::Rt => step_in_time(recording, orders, step.from, step.to),
@@ -314,38 +252,26 @@ fn is_asked(recording: &Recording, orders: Orders, step: CycleStep) -> bool
 /// Whether a step is so, on its ground.
 pub(crate) fn is_step_by(
     alloc: Global,
-    recording: &Recording,
-    owners: &[Option<Owner>],
-    views: &[RecordedView],
+    case: &Case<'_>,
     versions: &Versions,
-    orders: Orders,
     known: &[WriteOrder],
     step: CycleStep,
     ground: Ground,
 ) -> Result<bool, AllocError>
-    requires recording { IsRecording recording.now }
-    requires owners { AreOwners recording.now owners.now }
-    requires views { (v : RecordedView) → Contains views.now v → IsViewOf recording.now v }
+    requires case { IsCase case.now }
     requires history { IsRecorded versions.now.recorded }
-    ensures { IfOk result (λ is. IsTrue is → IsStepBy recording.now orders known.now step) }
+    ensures { IfOk result (λ is. IsTrue is → IsStepBy case.now.recording.now case.now.question.orders known.now step) }
 {
     match ground {
-        Ground::Asked => Ok(is_asked(recording, orders, step)),
-        Ground::Seen(view) => Ok(is_read(recording, owners, views, orders, step, view)),
-        Ground::Nothing(view) => Ok(is_before_all(
-            recording, owners, views, versions, orders, step, view,
-        )),
+        Ground::Asked => Ok(is_asked(case, step)),
+        Ground::Seen(view) => Ok(is_read(case, step, view)),
+        Ground::Nothing(view) => Ok(is_before_all(case, versions, step, view)),
         Ground::Written(behind) => {
-            let is = is_written(
-                alloc, recording, owners, views, versions, orders, known, step, behind,
-            )?;
+            let is = is_written(alloc, case, versions, known, step, behind)?;
             Ok(is)
         }
         Ground::Missed(view, writer, behind) => {
-            let is = is_missed(
-                alloc, recording, owners, views, versions, orders, known, step, view, writer,
-                behind,
-            )?;
+            let is = is_missed(alloc, case, versions, known, step, view, writer, behind)?;
             Ok(is)
         }
     }

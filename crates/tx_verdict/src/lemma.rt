@@ -1,21 +1,16 @@
 //! Clauses of question, each of which follows from those before it.
-ghost use Rattle.std.specs.Prelude.{◌≡◌, ◌⊎◌, ◌++◌, ◌∷◌, [], Contains, OnOk, IfOk, IsTrue, take};
-ghost use Rattle.tx_recording.specs.Recordings.{IsRecording};
-ghost use Rattle.tx_views.specs.declared.view.RecordedView.{RecordedView};
-ghost use Rattle.tx_views.specs.Views.{IsViewOf};
-ghost use Rattle.tx_views.specs.Owners.{AreOwners};
+ghost use Rattle.std.specs.Prelude.{◌≡◌, ◌⊎◌, [], Contains, IfOk, IsTrue};
 ghost use Rattle.tx_history.specs.Records.{IsRecorded};
+ghost use Rattle.tx_verdict.specs.Cases.{IsCase};
 ghost use Rattle.tx_verdict.specs.Refutations.{IsOrder, opposite, IsUnit, IsUnitOf, ClosesBy, IsLemmaBy, AreLemmasBy};
 
+use crate::case::Case;
 use crate::ground::Ground;
-use crate::question::Question;
 use crate::refutation::{Hint, Lemma, WriteOrder, is_round_by};
 use crate::stretch::has_written;
 use crate::verdict::CycleStep;
 use crate::versions::Versions;
 use std::alloc::{AllocError, Global};
-use tx_recording::Recording;
-use tx_views::{Owner, RecordedView};
 
 // The order the other way round.
 fn opposite_of(order: WriteOrder) -> WriteOrder
@@ -76,23 +71,18 @@ fn is_left(lemmas: &[Lemma], known: &[WriteOrder], hint: Hint) -> bool
 // Whether what is known closes a round, with what is left of the clauses of lemmas.
 fn closes_by(
     alloc: Global,
-    recording: &Recording,
-    owners: &[Option<Owner>],
-    views: &[RecordedView],
+    case: &Case<'_>,
     versions: &Versions,
-    question: Question,
     lemmas: &[Lemma],
     known: &mut Vec<WriteOrder>,
     hints: &[Hint],
     steps: &[CycleStep],
     grounds: &[Ground],
 ) -> Result<bool, AllocError>
-    requires recording { IsRecording recording.now }
-    requires owners { AreOwners recording.now owners.now }
-    requires views { (v : RecordedView) → Contains views.now v → IsViewOf recording.now v }
+    requires case { IsCase case.now }
     requires history { IsRecorded versions.now.recorded }
     ensures { IfOk result (λ is. IsTrue is
-        → ClosesBy recording.now question lemmas.now known.old.items hints.now steps.now) }
+        → ClosesBy case.now.recording.now case.now.question lemmas.now known.old.items hints.now steps.now) }
 {
     for i in 0..hints.len() {
         if !is_left(lemmas, known.as_slice(), hints[i]) {
@@ -100,76 +90,51 @@ fn closes_by(
         }
         known.push(hints[i].order)?;
     }
-    let closes = is_round_by(
-        alloc,
-        recording,
-        owners,
-        views,
-        versions,
-        question,
-        known.as_slice(),
-        steps,
-        grounds,
-    )?;
+    let closes = is_round_by(alloc, case, versions, known.as_slice(), steps, grounds)?;
     Ok(closes)
 }
 
 // Whether two wrote the key of an order.
-fn is_order(
-    recording: &Recording,
-    owners: &[Option<Owner>],
-    views: &[RecordedView],
-    versions: &Versions,
-    order: WriteOrder,
-) -> bool
-    requires recording { IsRecording recording.now }
-    requires owners { AreOwners recording.now owners.now }
-    requires views { (v : RecordedView) → Contains views.now v → IsViewOf recording.now v }
-    ensures { IsTrue result → IsOrder recording.now order }
+fn is_order(case: &Case<'_>, versions: &Versions, order: WriteOrder) -> bool
+    requires case { IsCase case.now }
+    ensures { IsTrue result → IsOrder case.now.recording.now order }
 {
     if order.first == order.second {
         return false;
     }
-    if !has_written(recording, owners, views, versions, order.first, order.key) {
+    if !has_written(case, versions, order.first, order.key) {
         return false;
     }
-    has_written(recording, owners, views, versions, order.second, order.key)
+    has_written(case, versions, order.second, order.key)
 }
 
 // Whether one of the orders of a lemma holds, by what is known and by the lemmas before.
 fn is_lemma(
     alloc: Global,
-    recording: &Recording,
-    owners: &[Option<Owner>],
-    views: &[RecordedView],
+    case: &Case<'_>,
     versions: &Versions,
-    question: Question,
     known: &[WriteOrder],
     before: &[Lemma],
     lemma: &Lemma,
 ) -> Result<bool, AllocError>
-    requires recording { IsRecording recording.now }
-    requires owners { AreOwners recording.now owners.now }
-    requires views { (v : RecordedView) → Contains views.now v → IsViewOf recording.now v }
+    requires case { IsCase case.now }
     requires history { IsRecorded versions.now.recorded }
-    ensures { IfOk result (λ is. IsTrue is → IsLemmaBy recording.now question known.now before.now lemma.now) }
+    ensures { IfOk result (λ is. IsTrue is
+        → IsLemmaBy case.now.recording.now case.now.question known.now before.now lemma.now) }
 {
     let clause = lemma.clause.as_slice();
     let mut all = Vec::new(alloc);
     all.extend_from_slice(known)?;
     for i in 0..clause.len() {
-        if !is_order(recording, owners, views, versions, clause[i]) {
+        if !is_order(case, versions, clause[i]) {
             return Ok(false);
         }
         all.push(opposite_of(clause[i]))?;
     }
     let closes = closes_by(
         alloc,
-        recording,
-        owners,
-        views,
+        case,
         versions,
-        question,
         before,
         &mut all,
         lemma.hints.as_slice(),
@@ -183,36 +148,29 @@ fn is_lemma(
 /// last round closes.
 pub(crate) fn are_lemmas(
     alloc: Global,
-    recording: &Recording,
-    owners: &[Option<Owner>],
-    views: &[RecordedView],
+    case: &Case<'_>,
     versions: &Versions,
-    question: Question,
     known: &[WriteOrder],
     lemmas: &[Lemma],
     hints: &[Hint],
     last: &[CycleStep],
     grounds: &[Ground],
 ) -> Result<bool, AllocError>
-    requires recording { IsRecording recording.now }
-    requires owners { AreOwners recording.now owners.now }
-    requires views { (v : RecordedView) → Contains views.now v → IsViewOf recording.now v }
+    requires case { IsCase case.now }
     requires history { IsRecorded versions.now.recorded }
     ensures { IfOk result (λ is. IsTrue is
-        → AreLemmasBy recording.now question known.now [] lemmas.now hints.now last.now) }
+        → AreLemmasBy case.now.recording.now case.now.question known.now [] lemmas.now hints.now last.now) }
 {
     for i in 0..lemmas.len() {
         let before = &lemmas[..i];
-        if !is_lemma(
-            alloc, recording, owners, views, versions, question, known, before, &lemmas[i],
-        )? {
+        if !is_lemma(alloc, case, versions, known, before, &lemmas[i])? {
             return Ok(false);
         }
     }
     let mut all = Vec::new(alloc);
     all.extend_from_slice(known)?;
     let closes = closes_by(
-        alloc, recording, owners, views, versions, question, lemmas, &mut all, hints, last, grounds,
+        alloc, case, versions, lemmas, &mut all, hints, last, grounds,
     )?;
     Ok(closes)
 }

@@ -7,6 +7,7 @@
 mod anomaly;
 mod anti_dependency;
 mod block;
+mod case;
 mod chain;
 mod evidence;
 mod facts;
@@ -28,6 +29,7 @@ mod verdict;
 mod versions;
 
 pub use anomaly::Anomaly;
+pub use case::Case;
 pub use evidence::{cycle_of, timestamps};
 pub use facts::{internal, wrong_update, wrong_views};
 pub use fit::value_of;

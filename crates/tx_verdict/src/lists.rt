@@ -1,14 +1,15 @@
 //! What is wrong with the lists that were seen, where nothing is written in place of what was
 //! there.
-ghost use Rattle.std.specs.Prelude.{◌≡◌, ◌≢◌, ◌<◌, length, Contains, IfOk, IfSome, IsTrue, slice_index};
-ghost use Rattle.tx_recording.specs.Recordings.{IsRecording, list_of};
+ghost use Rattle.std.specs.Prelude.{◌≡◌, ◌≢◌, ◌<◌, length, IfOk, IfSome, IsTrue, slice_index};
+ghost use Rattle.tx_recording.specs.Recordings.{list_of};
 ghost use Rattle.tx_views.specs.declared.view.RecordedView.{RecordedView};
-ghost use Rattle.tx_views.specs.Owners.{AreOwners};
 ghost use Rattle.tx_views.specs.Views.{IsViewOf};
+ghost use Rattle.tx_verdict.specs.Cases.{IsCase};
 ghost use Rattle.tx_verdict.specs.Facts.{AreLists};
 ghost use Rattle.tx_verdict.specs.Verdicts.{IsWrong};
 
 use crate::block::wrong_block;
+use crate::case::Case;
 use crate::facts::view_before;
 use crate::owners::owner_of;
 use crate::verdict::{Fact, Rule};
@@ -64,20 +65,16 @@ fn wrong_order(recording: &Recording, view: RecordedView, other: RecordedView) -
 }
 
 // What is wrong with a list beside the longest of its key.
-fn wrong_orders(
-    recording: &Recording,
-    views: &[RecordedView],
-    longest: &[Option<u32>],
-) -> Option<Fact>
-    requires lists { AreLists recording.now }
-    requires views { (v : RecordedView) → Contains views.now v → IsViewOf recording.now v }
-    ensures { IfSome result (IsWrong recording.now) }
+fn wrong_orders(case: &Case<'_>, longest: &[Option<u32>]) -> Option<Fact>
+    requires case { IsCase case.now }
+    requires lists { AreLists case.now.recording.now }
+    ensures { IfSome result (IsWrong case.now.recording.now) }
 {
-    for i in 0..views.len() {
-        let Some(other) = view_before(views, longest, views[i].key) else {
+    for i in 0..case.views.len() {
+        let Some(other) = view_before(case.views, longest, case.views[i].key) else {
             continue;
         };
-        let found = wrong_order(recording, views[i], views[other]);
+        let found = wrong_order(case.recording, case.views[i], case.views[other]);
         if found.is_some() {
             return found;
         }
@@ -111,17 +108,12 @@ fn note_place(table: &mut [usize], value: u32, place: usize) {
 }
 
 // What is wrong with a list that has a value twice. It uses a table by value, whatever that has.
-fn wrong_twice(
-    recording: &Recording,
-    owners: &[Option<Owner>],
-    view: RecordedView,
-    table: &mut [usize],
-) -> Option<Fact>
-    requires owners { AreOwners recording.now owners.now }
-    requires view { IsViewOf recording.now view }
-    ensures { IfSome result (IsWrong recording.now) }
+fn wrong_twice(case: &Case<'_>, view: RecordedView, table: &mut [usize]) -> Option<Fact>
+    requires case { IsCase case.now }
+    requires view { IsViewOf case.now.recording.now view }
+    ensures { IfSome result (IsWrong case.now.recording.now) }
 {
-    let list = recording.list_of(view.span);
+    let list = case.recording.list_of(view.span);
     for j in 0..list.len() {
         if let Some(_earlier) = place_before(table, list, j) {
             return Some(Fact {
@@ -153,21 +145,19 @@ fn goes_on(owners: &[Option<Owner>], list: &[u32], i: usize) -> bool
 // What is wrong with a list that has not all that one transaction put into the key.
 fn wrong_blocks(
     alloc: Global,
-    recording: &Recording,
-    owners: &[Option<Owner>],
+    case: &Case<'_>,
     view: RecordedView,
 ) -> Result<Option<Fact>, AllocError>
-    requires recording { IsRecording recording.now }
-    requires owners { AreOwners recording.now owners.now }
-    requires view { IsViewOf recording.now view }
-    ensures { IfOk result (λ found. IfSome found (IsWrong recording.now)) }
+    requires case { IsCase case.now }
+    requires view { IsViewOf case.now.recording.now view }
+    ensures { IfOk result (λ found. IfSome found (IsWrong case.now.recording.now)) }
 {
-    let list = recording.list_of(view.span);
+    let list = case.recording.list_of(view.span);
     for i in 0..list.len() {
-        if goes_on(owners, list, i) {
+        if goes_on(case.owners, list, i) {
             continue;
         }
-        let found = wrong_block(alloc, recording, owners, view, list, i)?;
+        let found = wrong_block(alloc, case, view, list, i)?;
         if found.is_some() {
             return Ok(found);
         }
@@ -178,27 +168,23 @@ fn wrong_blocks(
 // What is wrong with the longest list of a key.
 fn wrong_longest(
     alloc: Global,
-    recording: &Recording,
-    owners: &[Option<Owner>],
-    views: &[RecordedView],
+    case: &Case<'_>,
     longest: &[Option<u32>],
 ) -> Result<Option<Fact>, AllocError>
-    requires recording { IsRecording recording.now }
-    requires owners { AreOwners recording.now owners.now }
-    requires views { (v : RecordedView) → Contains views.now v → IsViewOf recording.now v }
-    ensures { IfOk result (λ found. IfSome found (IsWrong recording.now)) }
+    requires case { IsCase case.now }
+    ensures { IfOk result (λ found. IfSome found (IsWrong case.now.recording.now)) }
 {
-    let mut table = vec![in alloc; 0; recording.values as usize]?;
-    for key in 0..recording.keys {
-        let Some(place) = view_before(views, longest, key) else {
+    let mut table = vec![in alloc; 0; case.recording.values as usize]?;
+    for key in 0..case.recording.keys {
+        let Some(place) = view_before(case.views, longest, key) else {
             continue;
         };
-        let view = views[place];
-        let found = wrong_twice(recording, owners, view, table.as_mut_slice());
+        let view = case.views[place];
+        let found = wrong_twice(case, view, table.as_mut_slice());
         if found.is_some() {
             return Ok(found);
         }
-        let found = wrong_blocks(alloc, recording, owners, view)?;
+        let found = wrong_blocks(alloc, case, view)?;
         if found.is_some() {
             return Ok(found);
         }
@@ -213,20 +199,16 @@ fn wrong_longest(
 /// `AllocError` where there was no room.
 pub fn wrong_lists(
     alloc: Global,
-    recording: &Recording,
-    owners: &[Option<Owner>],
-    views: &[RecordedView],
+    case: &Case<'_>,
     longest: &[Option<u32>],
 ) -> Result<Option<Fact>, AllocError>
-    requires recording { IsRecording recording.now }
-    requires owners { AreOwners recording.now owners.now }
-    requires lists { AreLists recording.now }
-    requires views { (v : RecordedView) → Contains views.now v → IsViewOf recording.now v }
-    ensures { IfOk result (λ found. IfSome found (IsWrong recording.now)) }
+    requires case { IsCase case.now }
+    requires lists { AreLists case.now.recording.now }
+    ensures { IfOk result (λ found. IfSome found (IsWrong case.now.recording.now)) }
 {
-    let found = wrong_orders(recording, views, longest);
+    let found = wrong_orders(case, longest);
     if found.is_some() {
         return Ok(found);
     }
-    wrong_longest(alloc, recording, owners, views, longest)
+    wrong_longest(alloc, case, longest)
 }

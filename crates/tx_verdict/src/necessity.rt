@@ -3,13 +3,13 @@ ghost use Rattle.std.specs.Prelude.{ℕ, ◌+◌, ◌-◌, ◌<◌, Contains, So
 ghost use Rattle.tx_recording.specs.Recordings.{IsRecording, ops_of};
 ghost use Rattle.tx_views.specs.declared.view.RecordedView.{RecordedView};
 ghost use Rattle.tx_views.specs.Views.{IsViewOf};
-ghost use Rattle.tx_views.specs.Owners.{AreOwners};
-ghost use Rattle.tx_views.specs.declared.owner.Owner.{Owner};
 ghost use Rattle.tx_history.specs.declared.recorded.Read.{Read};
 ghost use Rattle.tx_history.specs.Records.{IsRecorded, history_of, writers_of};
+ghost use Rattle.tx_verdict.specs.Cases.{IsCase};
 ghost use Rattle.tx_verdict.specs.Reasons.{HasCommitted};
 ghost use Rattle.tx_verdict.specs.Forced.{AreForced, AreKnown, AreWriters, IsChain, IsReadForced, key_of};
 
+use crate::case::Case;
 use crate::chain::is_chain;
 use crate::fit::puts;
 use crate::owners::{is_by, sees_nothing, sees_writer};
@@ -17,7 +17,7 @@ use crate::versions::{Shown, Versions};
 use std::alloc::{AllocError, Global};
 use tx_history::Read;
 use tx_recording::Recording;
-use tx_views::{Owner, RecordedView};
+use tx_views::RecordedView;
 
 // Whether the writers of a chain put into its key and are known to have committed.
 fn are_writers(recording: &Recording, versions: &Versions, chain: u32, key: u32) -> bool
@@ -43,19 +43,11 @@ fn are_writers(recording: &Recording, versions: &Versions, chain: u32, key: u32)
 }
 
 // Whether the versions of each chain are of its key, and known to be committed one after the other.
-fn are_chains(
-    alloc: Global,
-    recording: &Recording,
-    owners: &[Option<Owner>],
-    views: &[RecordedView],
-    versions: &Versions,
-) -> Result<bool, AllocError>
-    requires recording { IsRecording recording.now }
-    requires owners { AreOwners recording.now owners.now }
-    requires views { (v : RecordedView) → Contains views.now v → IsViewOf recording.now v }
+fn are_chains(alloc: Global, case: &Case<'_>, versions: &Versions) -> Result<bool, AllocError>
+    requires case { IsCase case.now }
     requires history { IsRecorded versions.now.recorded }
-    requires known { AreKnown recording.now versions.now }
-    ensures { IfOk result (λ are. IsTrue are → (q : ℕ) → IsChain recording.now versions.now q) }
+    requires known { AreKnown case.now.recording.now versions.now }
+    ensures { IfOk result (λ are. IsTrue are → (q : ℕ) → IsChain case.now.recording.now versions.now q) }
 {
     let chains = versions.names.len();
     if chains > 0xffff_ffff {
@@ -66,10 +58,10 @@ fn are_chains(
     }
     for chain in 0..chains {
         let key = versions.names[chain];
-        if !are_writers(recording, versions, chain as u32, key) {
+        if !are_writers(case.recording, versions, chain as u32, key) {
             return Ok(false);
         }
-        if !is_chain(alloc, recording, owners, views, versions, chain as u32, key)? {
+        if !is_chain(alloc, case, versions, chain as u32, key)? {
             return Ok(false);
         }
     }
@@ -77,61 +69,41 @@ fn are_chains(
 }
 
 // Whether a value that the transaction put was seen.
-fn is_shown(
-    recording: &Recording,
-    owners: &[Option<Owner>],
-    views: &[RecordedView],
-    shown: Shown,
-    txn: u32,
-) -> bool
-    requires owners { AreOwners recording.now owners.now }
-    requires views { (v : RecordedView) → Contains views.now v → IsViewOf recording.now v }
-    ensures { IsTrue result → HasCommitted recording.now txn }
+fn is_shown(case: &Case<'_>, shown: Shown, txn: u32) -> bool
+    requires case { IsCase case.now }
+    ensures { IsTrue result → HasCommitted case.now.recording.now txn }
 {
-    if shown.view as usize >= views.len() {
+    if shown.view as usize >= case.views.len() {
         return false;
     }
-    let list = recording.list_of(views[shown.view as usize].span);
+    let list = case.recording.list_of(case.views[shown.view as usize].span);
     if shown.place as usize >= list.len() {
         return false;
     }
-    is_by(owners, list[shown.place as usize], txn)
+    is_by(case.owners, list[shown.place as usize], txn)
 }
 
 /// Whether a transaction is known to have committed.
-pub(crate) fn is_known(
-    recording: &Recording,
-    owners: &[Option<Owner>],
-    views: &[RecordedView],
-    versions: &Versions,
-    txn: u32,
-) -> bool
-    requires owners { AreOwners recording.now owners.now }
-    requires views { (v : RecordedView) → Contains views.now v → IsViewOf recording.now v }
-    ensures { IsTrue result → HasCommitted recording.now txn }
+pub(crate) fn is_known(case: &Case<'_>, versions: &Versions, txn: u32) -> bool
+    requires case { IsCase case.now }
+    ensures { IsTrue result → HasCommitted case.now.recording.now txn }
 {
-    if txn as usize >= recording.transactions.len() {
+    if txn as usize >= case.recording.transactions.len() {
         return false;
     }
-    if recording.transactions[txn as usize].outcome.is_ok() {
+    if case.recording.transactions[txn as usize].outcome.is_ok() {
         return true;
     }
     match versions.shown.get(txn as usize) {
-        Some(shown) => is_shown(recording, owners, views, *shown, txn),
+        Some(shown) => is_shown(case, *shown, txn),
         None => false,
     }
 }
 
 // Whether all that is live is known to have committed.
-fn are_known(
-    recording: &Recording,
-    owners: &[Option<Owner>],
-    views: &[RecordedView],
-    versions: &Versions,
-) -> bool
-    requires owners { AreOwners recording.now owners.now }
-    requires views { (v : RecordedView) → Contains views.now v → IsViewOf recording.now v }
-    ensures { IsTrue result → AreKnown recording.now versions.now }
+fn are_known(case: &Case<'_>, versions: &Versions) -> bool
+    requires case { IsCase case.now }
+    ensures { IsTrue result → AreKnown case.now.recording.now versions.now }
 {
     if versions.live.len() > 0xffff_ffff {
         return false;
@@ -140,7 +112,7 @@ fn are_known(
         if !versions.live[txn] {
             continue;
         }
-        if !is_known(recording, owners, views, versions, txn as u32) {
+        if !is_known(case, versions, txn as u32) {
             return false;
         }
     }
@@ -148,19 +120,13 @@ fn are_known(
 }
 
 // Whether what was read is what a view says.
-fn is_read(
-    recording: &Recording,
-    owners: &[Option<Owner>],
-    view: RecordedView,
-    versions: &Versions,
-    read: Read,
-) -> bool
-    requires owners { AreOwners recording.now owners.now }
-    requires view { IsViewOf recording.now view }
+fn is_read(case: &Case<'_>, view: RecordedView, versions: &Versions, read: Read) -> bool
+    requires case { IsCase case.now }
+    requires view { IsViewOf case.now.recording.now view }
     requires history { IsRecorded versions.now.recorded }
-    ensures { IsTrue result → IsReadForced recording.now versions.now read }
+    ensures { IsTrue result → IsReadForced case.now.recording.now versions.now read }
 {
-    if read.txn as usize >= recording.transactions.len() {
+    if read.txn as usize >= case.recording.transactions.len() {
         return false;
     }
     if read.key as usize >= versions.names.len() {
@@ -169,39 +135,27 @@ fn is_read(
     let key = versions.names[read.key as usize];
     let version = read.version as usize;
     if version == 0 {
-        return sees_nothing(recording, view, read.txn, key);
+        return sees_nothing(case.recording, view, read.txn, key);
     }
     let writers = versions.recorded.writers_of(read.key as usize);
     if version > writers.len() {
         return false;
     }
-    sees_writer(recording, owners, view, read.txn, key, writers[version - 1])
+    sees_writer(case, view, read.txn, key, writers[version - 1])
 }
 
 // Whether all that was read is what the views say.
-fn are_reads(
-    recording: &Recording,
-    owners: &[Option<Owner>],
-    views: &[RecordedView],
-    versions: &Versions,
-) -> bool
-    requires owners { AreOwners recording.now owners.now }
-    requires views { (v : RecordedView) → Contains views.now v → IsViewOf recording.now v }
+fn are_reads(case: &Case<'_>, versions: &Versions) -> bool
+    requires case { IsCase case.now }
     requires history { IsRecorded versions.now.recorded }
     ensures { IsTrue result → (p : Read) → Contains versions.now.recorded.reads.items p
-        → IsReadForced recording.now versions.now p }
+        → IsReadForced case.now.recording.now versions.now p }
 {
-    if versions.recorded.reads.len() != views.len() {
+    if versions.recorded.reads.len() != case.views.len() {
         return false;
     }
-    for i in 0..views.len() {
-        if !is_read(
-            recording,
-            owners,
-            views[i],
-            versions,
-            versions.recorded.reads[i],
-        ) {
+    for i in 0..case.views.len() {
+        if !is_read(case, case.views[i], versions, versions.recorded.reads[i]) {
             return false;
         }
     }
@@ -211,23 +165,19 @@ fn are_reads(
 /// Whether the versions and what was read of them are so by the recording.
 pub(crate) fn is_forced(
     alloc: Global,
-    recording: &Recording,
-    owners: &[Option<Owner>],
-    views: &[RecordedView],
+    case: &Case<'_>,
     versions: &Versions,
 ) -> Result<bool, AllocError>
-    requires recording { IsRecording recording.now }
-    requires owners { AreOwners recording.now owners.now }
-    requires views { (v : RecordedView) → Contains views.now v → IsViewOf recording.now v }
+    requires case { IsCase case.now }
     requires history { IsRecorded versions.now.recorded }
     ensures { IfOk result (λ are. IsTrue are
-        → AreForced recording.now (history_of versions.now.recorded) (key_of versions.now)) }
+        → AreForced case.now.recording.now (history_of versions.now.recorded) (key_of versions.now)) }
 {
-    if !are_known(recording, owners, views, versions) {
+    if !are_known(case, versions) {
         return Ok(false);
     }
-    if !are_chains(alloc, recording, owners, views, versions)? {
+    if !are_chains(alloc, case, versions)? {
         return Ok(false);
     }
-    Ok(are_reads(recording, owners, views, versions))
+    Ok(are_reads(case, versions))
 }

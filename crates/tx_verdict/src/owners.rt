@@ -1,10 +1,12 @@
 //! What a view says of who put into its key.
 ghost use Rattle.std.specs.Prelude.{◌≡◌, [], Some, IfSome, IfNone, IsTrue};
 ghost use Rattle.tx_views.specs.Views.{IsViewOf, Saw};
-ghost use Rattle.tx_views.specs.Owners.{AreOwners, owner_at};
+ghost use Rattle.tx_views.specs.Owners.{owner_at};
 ghost use Rattle.tx_views.specs.declared.owner.Owner.{Owner};
+ghost use Rattle.tx_verdict.specs.Cases.{IsCase};
 ghost use Rattle.tx_verdict.specs.Reasons.{SawOf};
 
+use crate::case::Case;
 use tx_recording::Recording;
 use tx_views::{Owner, RecordedView};
 
@@ -31,16 +33,15 @@ pub(crate) fn is_by(owners: &[Option<Owner>], value: u32, txn: u32) -> bool
 
 /// Whether a view is of what the writer left of a key, by the last value.
 pub(crate) fn sees_writer(
-    recording: &Recording,
-    owners: &[Option<Owner>],
+    case: &Case<'_>,
     view: RecordedView,
     txn: u32,
     key: u32,
     writer: u32,
 ) -> bool
-    requires owners { AreOwners recording.now owners.now }
-    requires view { IsViewOf recording.now view }
-    ensures { IsTrue result → SawOf recording.now txn key writer }
+    requires case { IsCase case.now }
+    requires view { IsViewOf case.now.recording.now view }
+    ensures { IsTrue result → SawOf case.now.recording.now txn key writer }
 {
     if view.txn != txn {
         return false;
@@ -48,12 +49,12 @@ pub(crate) fn sees_writer(
     if view.key != key {
         return false;
     }
-    let list = recording.list_of(view.span);
+    let list = case.recording.list_of(view.span);
     let count = list.len();
     if count == 0 {
         return false;
     }
-    is_by(owners, list[count - 1], writer)
+    is_by(case.owners, list[count - 1], writer)
 }
 
 /// Whether a view is of a key that holds nothing.

@@ -1,23 +1,18 @@
 //! A refutation of a recording of which some keys' orders are open.
-ghost use Rattle.std.specs.Prelude.{◌≡◌, [], ◌∷◌, ◌++◌, Contains, IfOk, IsTrue};
-ghost use Rattle.tx_recording.specs.Recordings.{IsRecording};
-ghost use Rattle.tx_views.specs.declared.view.RecordedView.{RecordedView};
-ghost use Rattle.tx_views.specs.Views.{IsViewOf};
-ghost use Rattle.tx_views.specs.Owners.{AreOwners};
+ghost use Rattle.std.specs.Prelude.{◌≡◌, [], ◌∷◌, ◌++◌, IfOk, IsTrue};
 ghost use Rattle.tx_history.specs.Records.{IsRecorded};
+ghost use Rattle.tx_verdict.specs.Cases.{IsCase};
 ghost use Rattle.tx_verdict.specs.Verdicts.{IsRefused};
 ghost use Rattle.tx_verdict.specs.Refutations.{IsRoundBy, IsSettledBy, IsRefutationBy, IsRefutation};
 
+use crate::case::Case;
 use crate::ground::{Ground, is_step_by};
 use crate::lemma::are_lemmas;
-use crate::question::Question;
 use crate::steps::{forbids, is_round};
 use crate::stretch::has_written;
 use crate::verdict::CycleStep;
 use crate::versions::Versions;
 use std::alloc::{AllocError, Global};
-use tx_recording::Recording;
-use tx_views::{Owner, RecordedView};
 
 /// Of two that wrote a key, the first wrote it before the second.
 #[derive(Clone, Copy, Debug, PartialEq, Eq)]
@@ -71,42 +66,27 @@ pub struct Refutation {
 /// Whether steps go round, as the level that is asked for forbids, each on its ground.
 pub(crate) fn is_round_by(
     alloc: Global,
-    recording: &Recording,
-    owners: &[Option<Owner>],
-    views: &[RecordedView],
+    case: &Case<'_>,
     versions: &Versions,
-    question: Question,
     known: &[WriteOrder],
     steps: &[CycleStep],
     grounds: &[Ground],
 ) -> Result<bool, AllocError>
-    requires recording { IsRecording recording.now }
-    requires owners { AreOwners recording.now owners.now }
-    requires views { (v : RecordedView) → Contains views.now v → IsViewOf recording.now v }
+    requires case { IsCase case.now }
     requires history { IsRecorded versions.now.recorded }
-    ensures { IfOk result (λ is. IsTrue is → IsRoundBy recording.now question known.now steps.now) }
+    ensures { IfOk result (λ is. IsTrue is → IsRoundBy case.now.recording.now case.now.question known.now steps.now) }
 {
     if !is_round(steps) {
         return Ok(false);
     }
-    if !forbids(question.level, steps) {
+    if !forbids(case.question.level, steps) {
         return Ok(false);
     }
     if grounds.len() != steps.len() {
         return Ok(false);
     }
     for i in 0..steps.len() {
-        if !is_step_by(
-            alloc,
-            recording,
-            owners,
-            views,
-            versions,
-            question.orders,
-            known,
-            steps[i],
-            grounds[i],
-        )? {
+        if !is_step_by(alloc, case, versions, known, steps[i], grounds[i])? {
             return Ok(false);
         }
     }
@@ -116,29 +96,24 @@ pub(crate) fn is_round_by(
 // Whether an order is settled by those that are known, with the opposite one beside them.
 fn is_settled(
     alloc: Global,
-    recording: &Recording,
-    owners: &[Option<Owner>],
-    views: &[RecordedView],
+    case: &Case<'_>,
     versions: &Versions,
-    question: Question,
     known: &mut Vec<WriteOrder>,
     fact: &Settled,
 ) -> Result<bool, AllocError>
-    requires recording { IsRecording recording.now }
-    requires owners { AreOwners recording.now owners.now }
-    requires views { (v : RecordedView) → Contains views.now v → IsViewOf recording.now v }
+    requires case { IsCase case.now }
     requires history { IsRecorded versions.now.recorded }
     ensures { IfOk result (λ is. IsTrue is → (known.new.items ≡ known.old.items ++ fact.now.order ∷ [])
-        × IsSettledBy recording.now question known.old.items fact.now) }
+        × IsSettledBy case.now.recording.now case.now.question known.old.items fact.now) }
 {
     let order = fact.order;
     if order.first == order.second {
         return Ok(false);
     }
-    if !has_written(recording, owners, views, versions, order.first, order.key) {
+    if !has_written(case, versions, order.first, order.key) {
         return Ok(false);
     }
-    if !has_written(recording, owners, views, versions, order.second, order.key) {
+    if !has_written(case, versions, order.second, order.key) {
         return Ok(false);
     }
     let count = known.len();
@@ -149,11 +124,8 @@ fn is_settled(
     })?;
     if !is_round_by(
         alloc,
-        recording,
-        owners,
-        views,
+        case,
         versions,
-        question,
         known.as_slice(),
         fact.round.as_slice(),
         fact.grounds.as_slice(),
@@ -168,35 +140,26 @@ fn is_settled(
 // last round closes.
 fn are_settled(
     alloc: Global,
-    recording: &Recording,
-    owners: &[Option<Owner>],
-    views: &[RecordedView],
+    case: &Case<'_>,
     versions: &Versions,
-    question: Question,
     facts: &[Settled],
     refutation: &Refutation,
 ) -> Result<bool, AllocError>
-    requires recording { IsRecording recording.now }
-    requires owners { AreOwners recording.now owners.now }
-    requires views { (v : RecordedView) → Contains views.now v → IsViewOf recording.now v }
+    requires case { IsCase case.now }
     requires history { IsRecorded versions.now.recorded }
-    ensures { IfOk result (λ is. IsTrue is → IsRefutationBy recording.now question [] facts.now refutation.now) }
+    ensures { IfOk result (λ is. IsTrue is
+        → IsRefutationBy case.now.recording.now case.now.question [] facts.now refutation.now) }
 {
     let mut known = Vec::new(alloc);
     for i in 0..facts.len() {
-        if !is_settled(
-            alloc, recording, owners, views, versions, question, &mut known, &facts[i],
-        )? {
+        if !is_settled(alloc, case, versions, &mut known, &facts[i])? {
             return Ok(false);
         }
     }
     let closes = are_lemmas(
         alloc,
-        recording,
-        owners,
-        views,
+        case,
         versions,
-        question,
         known.as_slice(),
         refutation.lemmas.as_slice(),
         refutation.hints.as_slice(),
@@ -210,23 +173,17 @@ fn are_settled(
 /// round closes.
 pub fn is_refutation(
     alloc: Global,
-    recording: &Recording,
-    owners: &[Option<Owner>],
-    views: &[RecordedView],
+    case: &Case<'_>,
     versions: &Versions,
-    question: Question,
     refutation: &Refutation,
 ) -> Result<bool, AllocError>
-    requires recording { IsRecording recording.now }
-    requires owners { AreOwners recording.now owners.now }
-    requires views { (v : RecordedView) → Contains views.now v → IsViewOf recording.now v }
+    requires case { IsCase case.now }
     requires history { IsRecorded versions.now.recorded }
-    ensures refutation { IfOk result (λ is. IsTrue is → IsRefutation recording.now question refutation.now) }
-    ensures refused { IfOk result (λ is. IsTrue is → IsRefused recording.now question) }
+    ensures refutation { IfOk result (λ is. IsTrue is
+        → IsRefutation case.now.recording.now case.now.question refutation.now) }
+    ensures refused { IfOk result (λ is. IsTrue is → IsRefused case.now.recording.now case.now.question) }
 {
     let facts = refutation.facts.as_slice();
-    let is = are_settled(
-        alloc, recording, owners, views, versions, question, facts, refutation,
-    )?;
+    let is = are_settled(alloc, case, versions, facts, refutation)?;
     Ok(is)
 }

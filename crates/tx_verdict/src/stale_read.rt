@@ -1,21 +1,17 @@
 //! A write behind another one that is told as what it rests on: the first had read, and had not
 //! seen what the second wrote.
-ghost use Rattle.std.specs.Prelude.{Contains, IfOk, IfSome};
-ghost use Rattle.tx_recording.specs.Recordings.{IsRecording};
-ghost use Rattle.tx_views.specs.declared.view.RecordedView.{RecordedView};
-ghost use Rattle.tx_views.specs.Views.{IsViewOf};
-ghost use Rattle.tx_views.specs.Owners.{AreOwners};
+ghost use Rattle.std.specs.Prelude.{IfOk, IfSome};
 ghost use Rattle.tx_history.specs.Records.{IsRecorded};
+ghost use Rattle.tx_verdict.specs.Cases.{IsCase};
 ghost use Rattle.tx_verdict.specs.Steps.{IsStep, AreSteps};
 
 use crate::anomaly::is_rw;
+use crate::case::Case;
 use crate::ground::{Behind, Ground, is_step_by};
 use crate::steps::{beside_of, push_step};
 use crate::verdict::{Beside, CycleStep, EdgeKind};
 use crate::versions::{Base, Versions};
 use std::alloc::{AllocError, Global};
-use tx_recording::{Orders, Recording};
-use tx_views::{Owner, RecordedView};
 
 // Why who saw a key in the view at a place did not see what was written behind that.
 fn ground_at(versions: &Versions, place: usize) -> Option<Ground>
@@ -34,22 +30,17 @@ fn ground_at(versions: &Versions, place: usize) -> Option<Ground>
 // The step of two of which the first had read a key, and had not seen what the second wrote there.
 fn missed(
     alloc: Global,
-    recording: &Recording,
-    owners: &[Option<Owner>],
-    views: &[RecordedView],
+    case: &Case<'_>,
     versions: &Versions,
-    orders: Orders,
     from: u32,
     to: u32,
 ) -> Result<Option<CycleStep>, AllocError>
-    requires recording { IsRecording recording.now }
-    requires owners { AreOwners recording.now owners.now }
-    requires views { (v : RecordedView) → Contains views.now v → IsViewOf recording.now v }
+    requires case { IsCase case.now }
     requires history { IsRecorded versions.now.recorded }
-    ensures { IfOk result (λ found. IfSome found (IsStep recording.now orders)) }
+    ensures { IfOk result (λ found. IfSome found (IsStep case.now.recording.now case.now.question.orders)) }
 {
-    for i in 0..views.len() {
-        if views[i].txn != from {
+    for i in 0..case.views.len() {
+        if case.views[i].txn != from {
             continue;
         }
         let Some(ground) = ground_at(versions, i) else {
@@ -58,20 +49,10 @@ fn missed(
         let step = CycleStep {
             from,
             edge: EdgeKind::Rw,
-            key: Some(views[i].key),
+            key: Some(case.views[i].key),
             to,
         };
-        if is_step_by(
-            alloc,
-            recording,
-            owners,
-            views,
-            versions,
-            orders,
-            &[],
-            step,
-            ground,
-        )? {
+        if is_step_by(alloc, case, versions, &[], step, ground)? {
             return Ok(Some(step));
         }
     }
@@ -122,26 +103,21 @@ fn may_be_told(versions: &Versions, step: CycleStep, beside: Beside) -> bool
 // How a step is told: as an anti-dependency, if it may be told so, and is one as well.
 fn told_step(
     alloc: Global,
-    recording: &Recording,
-    owners: &[Option<Owner>],
-    views: &[RecordedView],
+    case: &Case<'_>,
     versions: &Versions,
-    orders: Orders,
     step: CycleStep,
     may: bool,
 ) -> Result<CycleStep, AllocError>
-    requires recording { IsRecording recording.now }
-    requires owners { AreOwners recording.now owners.now }
-    requires views { (v : RecordedView) → Contains views.now v → IsViewOf recording.now v }
+    requires case { IsCase case.now }
     requires history { IsRecorded versions.now.recorded }
-    requires step { IsStep recording.now orders step }
-    ensures { IfOk result (IsStep recording.now orders) }
+    requires step { IsStep case.now.recording.now case.now.question.orders step }
+    ensures { IfOk result (IsStep case.now.recording.now case.now.question.orders) }
 {
     if !may {
         return Ok(step);
     }
     let CycleStep { from, to, .. } = step;
-    match missed(alloc, recording, owners, views, versions, orders, from, to)? {
+    match missed(alloc, case, versions, from, to)? {
         Some(found) => Ok(found),
         None => Ok(step),
     }
@@ -153,28 +129,21 @@ fn told_step(
 /// cycle needs an order of processes or of the clock.
 pub(crate) fn with_stale_read(
     alloc: Global,
-    recording: &Recording,
-    owners: &[Option<Owner>],
-    views: &[RecordedView],
+    case: &Case<'_>,
     versions: &Versions,
-    orders: Orders,
     steps: &[CycleStep],
 ) -> Result<Vec<CycleStep>, AllocError>
-    requires recording { IsRecording recording.now }
-    requires owners { AreOwners recording.now owners.now }
-    requires views { (v : RecordedView) → Contains views.now v → IsViewOf recording.now v }
+    requires case { IsCase case.now }
     requires history { IsRecorded versions.now.recorded }
-    requires steps { AreSteps recording.now orders steps.now }
-    ensures { IfOk result (λ told. AreSteps recording.now orders told.items) }
+    requires steps { AreSteps case.now.recording.now case.now.question.orders steps.now }
+    ensures { IfOk result (λ told. AreSteps case.now.recording.now case.now.question.orders told.items) }
 {
     let mut told = Vec::new(alloc);
     let beside = beside_of(steps);
     let mut open = steps.len() > 1 && !steps.iter().any(|step| is_rw(step));
     for i in 0..steps.len() {
         let may = open && may_be_told(versions, steps[i], beside);
-        let step = told_step(
-            alloc, recording, owners, views, versions, orders, steps[i], may,
-        )?;
+        let step = told_step(alloc, case, versions, steps[i], may)?;
         open = open && step == steps[i];
         push_step(&mut told, Some(step))?;
     }

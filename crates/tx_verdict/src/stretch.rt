@@ -1,20 +1,16 @@
 //! Versions of a chain that come one right behind the other.
-ghost use Rattle.std.specs.Prelude.{◌≡◌, ◌≢◌, ℕ, ◌<◌, ◌≤◌, List, length, false, Contains, IfOk, IsTrue, slice_index};
-ghost use Rattle.tx_recording.specs.Recordings.{IsRecording};
-ghost use Rattle.tx_views.specs.declared.view.RecordedView.{RecordedView};
-ghost use Rattle.tx_views.specs.Views.{IsViewOf};
-ghost use Rattle.tx_views.specs.Owners.{AreOwners};
+ghost use Rattle.std.specs.Prelude.{◌≡◌, ◌≢◌, ℕ, ◌<◌, ◌≤◌, List, length, false, IfOk, IsTrue, slice_index};
 ghost use Rattle.tx_history.specs.Records.{IsRecorded, writers_of};
+ghost use Rattle.tx_verdict.specs.Cases.{IsCase};
 ghost use Rattle.tx_verdict.specs.Reasons.{HasWritten, IsNext, IsBased, IsBehind};
 ghost use Rattle.tx_verdict.specs.Refutations.{IsTrain};
 
+use crate::case::Case;
 use crate::chain::{is_based, is_other};
 use crate::fit::puts;
 use crate::necessity::is_known;
 use crate::versions::{Base, Versions};
 use std::alloc::{AllocError, Global};
-use tx_recording::Recording;
-use tx_views::{Owner, RecordedView};
 
 /// Versions of a chain, from the one at a place to the one at another.
 #[derive(Clone, Copy, Debug, PartialEq, Eq)]
@@ -25,34 +21,23 @@ pub struct Stretch {
 }
 
 /// Whether a transaction is known to have committed, and puts into the key.
-pub(crate) fn has_written(
-    recording: &Recording,
-    owners: &[Option<Owner>],
-    views: &[RecordedView],
-    versions: &Versions,
-    txn: u32,
-    key: u32,
-) -> bool
-    requires recording { IsRecording recording.now }
-    requires owners { AreOwners recording.now owners.now }
-    requires views { (v : RecordedView) → Contains views.now v → IsViewOf recording.now v }
-    ensures { IsTrue result → HasWritten recording.now txn key }
+pub(crate) fn has_written(case: &Case<'_>, versions: &Versions, txn: u32, key: u32) -> bool
+    requires case { IsCase case.now }
+    ensures { IsTrue result → HasWritten case.now.recording.now txn key }
 {
-    if txn as usize >= recording.transactions.len() {
+    if txn as usize >= case.recording.transactions.len() {
         return false;
     }
-    if !is_known(recording, owners, views, versions, txn) {
+    if !is_known(case, versions, txn) {
         return false;
     }
-    puts(recording.ops_of(txn as usize), key)
+    puts(case.recording.ops_of(txn as usize), key)
 }
 
 /// Whether the writer of the version at a place wrote right behind the one before it.
 pub(crate) fn is_next_in(
     alloc: Global,
-    recording: &Recording,
-    owners: &[Option<Owner>],
-    views: &[RecordedView],
+    case: &Case<'_>,
     versions: &Versions,
     chain: u32,
     place: u32,
@@ -60,11 +45,9 @@ pub(crate) fn is_next_in(
     first: u32,
     second: u32,
 ) -> Result<bool, AllocError>
-    requires recording { IsRecording recording.now }
-    requires owners { AreOwners recording.now owners.now }
-    requires views { (v : RecordedView) → Contains views.now v → IsViewOf recording.now v }
+    requires case { IsCase case.now }
     requires history { IsRecorded versions.now.recorded }
-    ensures { IfOk result (λ is. IsTrue is → IsNext recording.now key first second) }
+    ensures { IfOk result (λ is. IsTrue is → IsNext case.now.recording.now key first second) }
 {
     let writers = versions.recorded.writers_of(chain as usize);
     let at = place as usize;
@@ -81,7 +64,7 @@ pub(crate) fn is_next_in(
         return Ok(false);
     }
     let base = versions.base_of(chain as usize, at);
-    let based = is_based(alloc, recording, owners, views, base, key, writers, at)?;
+    let based = is_based(alloc, case, base, key, writers, at)?;
     Ok(based)
 }
 
@@ -89,28 +72,25 @@ pub(crate) fn is_next_in(
 // other.
 fn is_row(
     alloc: Global,
-    recording: &Recording,
-    owners: &[Option<Owner>],
-    views: &[RecordedView],
+    case: &Case<'_>,
     versions: &Versions,
     writers: &[u32],
     chain: u32,
     count: usize,
     key: u32,
 ) -> Result<bool, AllocError>
-    requires recording { IsRecording recording.now }
-    requires owners { AreOwners recording.now owners.now }
-    requires views { (v : RecordedView) → Contains views.now v → IsViewOf recording.now v }
+    requires case { IsCase case.now }
     requires within { count ≤ length writers.now }
     ensures { IfOk result (λ is. IsTrue is → (i : ℕ) → i < count
-        → HasWritten recording.now (slice_index writers.now i) key × IsBased recording.now key writers.now i) }
+        → HasWritten case.now.recording.now (slice_index writers.now i) key
+        × IsBased case.now.recording.now key writers.now i) }
 {
     for i in 0..count {
-        if !has_written(recording, owners, views, versions, writers[i], key) {
+        if !has_written(case, versions, writers[i], key) {
             return Ok(false);
         }
         let base = versions.base_of(chain as usize, i);
-        if !is_based(alloc, recording, owners, views, base, key, writers, i)? {
+        if !is_based(alloc, case, base, key, writers, i)? {
             return Ok(false);
         }
     }
@@ -121,9 +101,7 @@ fn is_row(
 /// other, of which one transaction wrote the last, and another one none.
 pub(crate) fn is_behind_in(
     alloc: Global,
-    recording: &Recording,
-    owners: &[Option<Owner>],
-    views: &[RecordedView],
+    case: &Case<'_>,
     versions: &Versions,
     chain: u32,
     count: u32,
@@ -131,11 +109,9 @@ pub(crate) fn is_behind_in(
     first: u32,
     second: u32,
 ) -> Result<bool, AllocError>
-    requires recording { IsRecording recording.now }
-    requires owners { AreOwners recording.now owners.now }
-    requires views { (v : RecordedView) → Contains views.now v → IsViewOf recording.now v }
+    requires case { IsCase case.now }
     requires history { IsRecorded versions.now.recorded }
-    ensures { IfOk result (λ is. IsTrue is → IsBehind recording.now key first second) }
+    ensures { IfOk result (λ is. IsTrue is → IsBehind case.now.recording.now key first second) }
 {
     let writers = versions.recorded.writers_of(chain as usize);
     let count = count as usize;
@@ -151,9 +127,7 @@ pub(crate) fn is_behind_in(
     if !is_other(writers, count, second) {
         return Ok(false);
     }
-    let row = is_row(
-        alloc, recording, owners, views, versions, writers, chain, count, key,
-    )?;
+    let row = is_row(alloc, case, versions, writers, chain, count, key)?;
     Ok(row)
 }
 
@@ -161,9 +135,7 @@ pub(crate) fn is_behind_in(
 // right behind the one before it.
 fn is_linked(
     alloc: Global,
-    recording: &Recording,
-    owners: &[Option<Owner>],
-    views: &[RecordedView],
+    case: &Case<'_>,
     versions: &Versions,
     writers: &[u32],
     base: Base,
@@ -172,24 +144,22 @@ fn is_linked(
     is_first: bool,
     other: u32,
 ) -> Result<bool, AllocError>
-    requires recording { IsRecording recording.now }
-    requires owners { AreOwners recording.now owners.now }
-    requires views { (v : RecordedView) → Contains views.now v → IsViewOf recording.now v }
+    requires case { IsCase case.now }
     requires within { place < length writers.now }
-    ensures { IfOk result (λ is. IsTrue is → HasWritten recording.now (slice_index writers.now place) key
+    ensures { IfOk result (λ is. IsTrue is → HasWritten case.now.recording.now (slice_index writers.now place) key
         × (slice_index writers.now place ≢ other)
-        × (is_first ≡ false → IsBased recording.now key writers.now place)) }
+        × (is_first ≡ false → IsBased case.now.recording.now key writers.now place)) }
 {
     if writers[place] == other {
         return Ok(false);
     }
-    if !has_written(recording, owners, views, versions, writers[place], key) {
+    if !has_written(case, versions, writers[place], key) {
         return Ok(false);
     }
     if is_first {
         return Ok(true);
     }
-    let based = is_based(alloc, recording, owners, views, base, key, writers, place)?;
+    let based = is_based(alloc, case, base, key, writers, place)?;
     Ok(based)
 }
 
@@ -197,9 +167,7 @@ fn is_linked(
 /// the other's, and none is a third one's.
 pub(crate) fn is_train(
     alloc: Global,
-    recording: &Recording,
-    owners: &[Option<Owner>],
-    views: &[RecordedView],
+    case: &Case<'_>,
     versions: &Versions,
     stretch: Stretch,
     key: u32,
@@ -207,12 +175,10 @@ pub(crate) fn is_train(
     last: u32,
     other: u32,
 ) -> Result<bool, AllocError>
-    requires recording { IsRecording recording.now }
-    requires owners { AreOwners recording.now owners.now }
-    requires views { (v : RecordedView) → Contains views.now v → IsViewOf recording.now v }
+    requires case { IsCase case.now }
     requires history { IsRecorded versions.now.recorded }
     ensures { IfOk result (λ is. IsTrue is
-        → (ws : List ℕ) × (n : ℕ) × IsTrain recording.now key ws n first last other) }
+        → (ws : List ℕ) × (n : ℕ) × IsTrain case.now.recording.now key ws n first last other) }
 {
     let writers = versions.recorded.writers_of(stretch.chain as usize);
     let from = stretch.first as usize;
@@ -233,7 +199,7 @@ pub(crate) fn is_train(
         let base = versions.base_of(stretch.chain as usize, i);
         let is_first = i == from;
         if !is_linked(
-            alloc, recording, owners, views, versions, writers, base, key, i, is_first, other,
+            alloc, case, versions, writers, base, key, i, is_first, other,
         )? {
             return Ok(false);
         }

@@ -6,8 +6,11 @@ mod pictures;
 
 use crate::pictures::Pictures;
 use std::process::ExitCode;
-use tx_shell::txkv;
+use tx_shell::{terminal_width, txkv};
 
 fn main(rt: HostRuntime) -> ExitCode {
-    txkv(&rt, &Pictures, rt)
+    let pictures = Pictures {
+        width: terminal_width(&rt),
+    };
+    txkv(&rt, &pictures, rt)
 }

@@ -13,12 +13,19 @@ use tx_terminal::{Answers, converse, go_on};
 use tx_text::{Broken, End};
 
 /// What draws runs, answers questions on them, and plays scripts that go on.
-pub(crate) struct Pictures;
+#[derive(Drop)]
+pub(crate) struct Pictures {
+    /// How many places a line has at a terminal.
+    pub width: usize,
+}
 
 impl Answers for Pictures {
     fn picture<F: Fresh>(&self, alloc: Global, script: &[u8]) -> Result<Vec<u8>, Broken> {
         let mut out = Vec::new(alloc);
-        let options = PictureOptions::TEXT;
+        let options = PictureOptions {
+            width: Some(self.width),
+            ..PictureOptions::TEXT
+        };
         explain::<F, _, _, _>(alloc, &Plain, options, &mut &*script, &mut out, &mut None)?;
         Ok(out)
     }

@@ -4,7 +4,7 @@ ghost use Rattle.tx_region.specs.Copies.{IsOfKey};
 ghost use Rattle.tx_region.specs.Regions.{region_of, HasSameNumbers};
 ghost use Rattle.tx_region.specs.Calls.{Executes, Counts, TakesNoMemory};
 
-use crate::copy::Loaded;
+use crate::copy::{Loaded, no_view};
 use crate::copy_plan::plan;
 use crate::records::{Executed, Records};
 use tx_cells::Families;
@@ -28,9 +28,10 @@ impl<F: Families> Records<F> {
         ensures err { IfErr result (λ e. e ≡ Fault.OutOfMemory) }
     {
         let key = self.spell(body)?;
-        let view = self.view(&key, body)?;
+        let mut view = no_view();
+        self.view_into(&key, body, &mut view)?;
         let copied = self.numbers();
-        let mut planned = plan(view, &copied, loaded, body);
+        let mut planned = plan(&mut view, &copied, loaded, body);
         self.make(&key, body, &mut planned)
     }
 

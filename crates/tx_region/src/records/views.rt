@@ -14,26 +14,6 @@ use tx_spelling::EncodedKey;
 use tx_types::{Fault, Mutation, Ts};
 
 impl<F: Families> Records<F> {
-    // What a request of a transaction sees of its key.
-    fn txn_view(&self, key: &EncodedKey<'_>, start: Ts, commit: Ts) -> Result<KeyView, Fault>
-        ensures ok { IfOk result (λ view. SeesTxn ((region_of F.content self.now 0).cells key.now) start commit view) }
-        ensures err { IfErr result (λ e. e ≡ Fault.OutOfMemory) }
-    {
-        let view = self.families.view(self.alloc, key, start, commit)?;
-        Ok(KeyView::Txn(view))
-    }
-
-    // What a prewrite sees of its key.
-    fn prewrite_view(&self, key: &EncodedKey<'_>, body: &Prewrite) -> Result<KeyView, Fault>
-        ensures ok { IfOk result (λ view. SeesPrewrite ((region_of F.content self.now 0).cells key.now) body.now
-            view) }
-        ensures err { IfErr result (λ e. e ≡ Fault.OutOfMemory) }
-    {
-        let view = self.families.view(self.alloc, key, body.start, body.start)?;
-        let has_value = self.has_value(key, body)?;
-        Ok(KeyView::Prewrite { view, has_value })
-    }
-
     // Leaves what a read sees of its key at a place.
     fn read_view_into(&self, key: &EncodedKey<'_>, at: Ts, place: &mut KeyView) -> Result<(), Fault>
         ensures ok { OnOk result (SeesRead ((region_of F.content self.now 0).cells key.now) at place.new) }
@@ -132,32 +112,6 @@ impl<F: Families> Records<F> {
                 self.txn_view_into(key, body.start, body.start, place)
             }
             Body::ResolveLock(body) => self.txn_view_into(key, body.start, body.commit(), place),
-            Body::Scan(_) | Body::RaiseSafe(_) | Body::LocksBelow(_) | Body::Collect(_) => {
-                unreachable!()
-            }
-        }
-    }
-
-    /// What a request of one key sees of it.
-    #[inline(always)]
-    pub(crate) fn view(&self, key: &EncodedKey<'_>, body: &Body) -> Result<KeyView, Fault>
-        requires of_key { IsOfKey body.now }
-        requires of { key.now ≡ key_in body.now }
-        ensures ok { IfOk result (λ view. Sees (region_of F.content self.now 0).cells body.now view) }
-        ensures err { IfErr result (λ e. e ≡ Fault.OutOfMemory) }
-    {
-        match body {
-            Body::Get(body) => {
-                let view = self.families.read(self.alloc, key, body.at)?;
-                Ok(KeyView::Read(view))
-            }
-            Body::Prewrite(body) => self.prewrite_view(key, body.asked()),
-            Body::Commit(body) => self.txn_view(key, body.start, body.commit),
-            Body::BatchRollback(body) => self.txn_view(key, body.start, body.start),
-            Body::TxnHeartBeat(body) => self.txn_view(key, body.start, body.start),
-            Body::CheckTxnStatus(body) => self.txn_view(key, body.start, body.start),
-            Body::CheckSecondaryLocks(body) => self.txn_view(key, body.start, body.start),
-            Body::ResolveLock(body) => self.txn_view(key, body.start, body.commit()),
             Body::Scan(_) | Body::RaiseSafe(_) | Body::LocksBelow(_) | Body::Collect(_) => {
                 unreachable!()
             }

@@ -1,21 +1,26 @@
-//! The same by a try, whose room each request uses again.
-ghost use Rattle.std.specs.Prelude.{◌≡◌, ◌≤◌, None, IfErr, IfSome, IsSomeAnd, OnOk, OnErr};
+//! A request of one key that is planned outside the region: what it sees is copied into a try, and
+//! what was planned there is applied where its key is as it was. Each request uses the room of the
+//! try again.
+ghost use Rattle.std.specs.Prelude.{◌≡◌, ◌≤◌, ◌↔◌, None, IfErr, IfSome, IsSomeAnd, IsTrue, OnOk, OnErr};
 ghost use Rattle.tx_core.specs.Histories.{left};
 ghost use Rattle.tx_core.specs.ReadMarks.{max_ts};
 ghost use Rattle.tx_core.specs.Worlds.{Holds};
 ghost use Rattle.tx_journal.specs.Known.{HasSeen};
 ghost use Rattle.tx_journal.specs.Replies.{IsGiven};
 ghost use Rattle.tx_region.specs.Attempts.{CarriesIn, ComesIn};
-ghost use Rattle.tx_region.specs.Copies.{IsOfKey, key_in, IsPlan};
+ghost use Rattle.tx_region.specs.Copies.{IsOfKey, key_in, IsPlan, IsAbove};
 ghost use Rattle.tx_region.specs.KeyPlans.{IsCopyFor, IsPlanFor};
 ghost use Rattle.tx_region.specs.TakenRequests.{NeedsMark, Knows};
 
 use super::Region;
 use super::events::note_done;
+use super::marks::lies_above;
 use crate::attempt::{Attempt, Seen};
 use crate::copy::Loaded;
 use tx_cells::Families;
+use tx_core::Body;
 use tx_journal::{AnswerWithLock, JournalId, Reply, Request, Told};
+use tx_plan::KeyChange;
 use tx_spelling::KeyBytes;
 use tx_types::Fault;
 
@@ -29,8 +34,42 @@ fn forget<T: Drop>(place: &mut Option<T>)
 }
 
 impl<J: JournalId, F: Families> Region<J, F> {
-    /// As `copy_key`, for the request of a reply, into a try, which has no plan and no answer then,
-    /// nor a copy where memory was refused.
+    // Knows what was heard, and leaves a copy of what a request of one key sees of it in a try,
+    // which has no plan and no answer then, nor a copy where memory was refused.
+    #[inline(always)]
+    pub(super) fn copy_after(
+        &mut self,
+        heard: Told<J>,
+        body: &Body,
+        attempt: &mut Attempt<J>,
+    ) -> Result<(), Fault>
+        requires { IsOfKey body.now }
+        ensures same { (self.new.seat ≡ self.old.seat) × (self.new.ticks ≡ self.old.ticks) }
+        ensures seen { HasSeen J.bounds self.old.seat self.old.events self.new.events }
+        ensures copy { OnOk result (IsSomeAnd attempt.new.copy
+            (λ copy. IsCopyFor (record { by = heard; body = body.now }) copy × (copy.region ≡ self.new.seat)
+            × (copy.events ≡ self.new.events))) }
+        ensures empty { (attempt.new.plan ≡ None) × (attempt.new.answer ≡ None) }
+        ensures none { OnErr result (attempt.new.copy ≡ None) }
+        ensures err { IfErr result (λ e. e ≡ Fault.OutOfMemory) }
+    {
+        forget(&mut attempt.seen);
+        forget(&mut attempt.planned);
+        forget(&mut attempt.answer);
+        attempt.loaded = self.load_after(heard, body);
+        let key = self.records.spell(body)?;
+        self.records.view_into(&key, body, &mut attempt.view)?;
+        let bytes = key.into_bytes();
+        let told = self.seat.tell();
+        attempt.region = self.seat.number();
+        attempt.numbers = self.records.numbers();
+        attempt.taken = self.records.taken;
+        attempt.seen = Some(Seen { told, bytes });
+        Ok(())
+    }
+
+    /// Copies what the request of a reply, which is of one key, sees of it into a try, and records
+    /// nothing. The try has no plan and no answer then, nor a copy where memory was refused.
     pub fn copy_into(&mut self, place: &mut Reply<J>, attempt: &mut Attempt<J>) -> Result<(), Fault>
         requires { IsOfKey place.old.request.body }
         ensures place { place.new ≡ place.old }
@@ -42,20 +81,18 @@ impl<J: JournalId, F: Families> Region<J, F> {
         ensures none { OnErr result (attempt.new.copy ≡ None) }
         ensures err { IfErr result (λ e. e ≡ Fault.OutOfMemory) }
     {
-        forget(&mut attempt.seen);
-        forget(&mut attempt.planned);
-        forget(&mut attempt.answer);
-        attempt.loaded = self.load_in(place);
-        let body = place.body();
-        let key = self.records.spell(body)?;
-        self.records.view_into(&key, body, &mut attempt.view)?;
-        let bytes = key.into_bytes();
-        let told = self.seat.tell();
-        attempt.region = self.seat.number();
-        attempt.numbers = self.records.numbers();
-        attempt.taken = self.records.taken;
-        attempt.seen = Some(Seen { told, bytes });
-        Ok(())
+        let heard = place.tell_asked(&self.seat);
+        self.copy_after(heard, place.body(), attempt)
+    }
+
+    // Whether the minimum that a change promises lies above each read, as the whole history then
+    // has it.
+    fn is_above(&mut self, change: &KeyChange) -> bool
+        ensures same { (self.new.seat ≡ self.old.seat) × (self.new.ticks ≡ self.old.ticks) }
+        ensures seen { HasSeen J.bounds self.old.seat self.old.events self.new.events }
+        ensures above { IsTrue result ↔ IsAbove change.now self.new.events }
+    {
+        lies_above(&mut self.seat, change)
     }
 
     // Answers a request with a plan that is right for the records, where no read has passed the
@@ -97,8 +134,11 @@ impl<J: JournalId, F: Families> Region<J, F> {
         }
     }
 
-    /// As `apply`, of a try, which then has the answer, for a request that its caller keeps: what
-    /// the region then knows, or none where what was planned is no longer right.
+    /// Answers a request with what was planned for it in a try, which then has the answer, and
+    /// records that it did, where its key is as it was copied and no read has passed the minimum
+    /// that the plan promises: what the region then knows. Else it records nothing, and tells none.
+    /// Whether the plan is still right is seen first, without memory: only where it is may memory
+    /// be refused, and then the try has no answer.
     pub fn apply_attempt(
         &mut self,
         request: &Request<J>,

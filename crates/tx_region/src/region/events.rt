@@ -11,7 +11,7 @@ ghost use Rattle.tx_region.specs.TakenRequests.{Knows};
 use crate::records::Executed;
 use std::marker::Brand;
 use tx_core::{Answer, Body};
-use tx_journal::{AnswerWithLock, JournalId, Reply, Request, Seat, StepEvent, Told};
+use tx_journal::{AnswerWithLock, JournalId, Request, Seat, StepEvent, Told};
 use tx_types::Ts;
 
 // Records the event that the call picks, which reads at `at`. Where nothing above that was read
@@ -91,45 +91,6 @@ fn record_taken<J: JournalId>(
     }) seat.new.events }
 {
     record_event::<J, Brand>(seat, loaded, body, answer, read);
-}
-
-/// Records that the region of this seat, which loaded `loaded`, answered a request so, and replies
-/// it.
-#[inline(always)]
-pub(crate) fn reply_done<J: JournalId>(
-    seat: &mut Seat<J>,
-    request: Request<J>,
-    loaded: Ts,
-    done: Executed,
-) -> Reply<J>
-    requires right { MayRecord J.bounds seat.old.seat seat.old.events (events.Took record {
-      region = seat.old.seat;
-      body = request.body;
-      loaded = loaded;
-      answer = done.answer;
-    }) }
-    requires read { max_ts (events.Took record {
-      region = seat.old.seat;
-      body = request.body;
-      loaded = loaded;
-      answer = done.answer;
-    } ∷ seat.old.events) ≡ read_upto done.read (max_ts seat.old.events) }
-    requires knows { Knows request.by seat.old.events loaded }
-    ensures request { result.request ≡ request }
-    ensures same { (seat.new.seat ≡ seat.old.seat) × (seat.new.ticks ≡ seat.old.ticks) }
-    ensures told { seat.new.events ≡ result.events }
-    ensures answer { result.answer ≡ Some done.answer }
-    ensures added { HasRecorded J.bounds seat.old.seat seat.old.events (events.Took record {
-      region = seat.old.seat;
-      body = request.body;
-      loaded = loaded;
-      answer = done.answer;
-    }) seat.new.events }
-{
-    let Executed { answer, read } = done;
-    record_taken(seat, loaded, request.body(), answer.answer(), read);
-    let told = seat.tell();
-    Reply::new(request, Some(answer), told)
 }
 
 /// Records that the region of this seat, which loaded `loaded`, answered a request so, and leaves

@@ -6,12 +6,12 @@ use Rattle.tx_verdict.proofs.chain.is_based.Goals as goal
 
 pub is_viewed-requires-clause-view : goal.is_viewed-requires-clause-view
 is_viewed-requires-clause-view c =
-    let views = c.args.views.now in
+    let views = c.args.case.now.views.now in
     let lt : c.in-View.view < length views = omega arith in
-    c.requires.views (get_or views c.in-View.view no_view) (Contains-get_or views c.in-View.view no_view lt)
+    c.requires.case.views (get_or views c.in-View.view no_view) (Contains-get_or views c.in-View.view no_view lt)
 
 pub is_within-requires-clause-view : goal.is_within-requires-clause-view
 is_within-requires-clause-view c =
-    let views = c.args.views.now in
+    let views = c.args.case.now.views.now in
     let lt : c.in-Within.view < length views = omega arith in
-    c.requires.views (get_or views c.in-Within.view no_view) (Contains-get_or views c.in-Within.view no_view lt)
+    c.requires.case.views (get_or views c.in-Within.view no_view) (Contains-get_or views c.in-Within.view no_view lt)

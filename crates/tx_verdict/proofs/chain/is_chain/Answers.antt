@@ -6,7 +6,7 @@ use Rattle.tx_verdict.proofs.chain.is_chain.Goals as goal
 
 pub loop-i-preserved : goal.loop-i-preserved
 loop-i-preserved c =
-    let r = c.args.recording.now in
+    let r = c.args.case.now.recording.now in
     let ws = c.writers_of-writers.result.now in
     let both = more_links r c.args.key (writers_of c.args.versions.now.recorded c.args.chain) ws c.loop-i.i
     c.loop-i.known c.in_ok-based.based

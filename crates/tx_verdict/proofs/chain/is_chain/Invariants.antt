@@ -7,6 +7,7 @@ use Rattle.tx_verdict.proofs.chain.is_chain.Given as goal
 
 abbrev pub invariant-loop-i : goal.invariant-loop-i
 invariant-loop-i l = record {
-  links : (i : ℕ) → i + 1 < l.i → IsLinked l.recording l.key (writers_of l.versions.recorded l.chain) i;
-  based : IsTrue l.known → (i : ℕ) → i < l.i → IsBased l.recording l.key (writers_of l.versions.recorded l.chain) i;
+  links : (i : ℕ) → i + 1 < l.i → IsLinked l.case.recording.now l.key (writers_of l.versions.recorded l.chain) i;
+  based : IsTrue l.known → (i : ℕ) → i < l.i → IsBased l.case.recording.now l.key (writers_of
+      l.versions.recorded l.chain) i;
 }

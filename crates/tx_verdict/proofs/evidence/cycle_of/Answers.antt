@@ -15,19 +15,21 @@ steps_of-requires-clause-hold c =
 
 pub with_stale_read-requires-clause-steps : goal.with_stale_read-requires-clause-steps
 with_stale_read-requires-clause-steps c =
-    subst (AreSteps c.args.recording.now c.args.question.orders) (sym c.as_slice-2.ensures.value)
+    subst (AreSteps c.args.case.now.recording.now c.args.case.now.question.orders) (sym c.as_slice-2.ensures.value)
     c.in_ok-plain.ensures
 
 pub returns-clause-refused : goal.returns-clause-refused
-returns-clause-refused c = refused_by c.args.recording.now c.args.owners.now c.requires.owners c.args.question
+returns-clause-refused c = refused_by c.args.case.now.recording.now c.args.case.now.owners.now
+    c.requires.case.owners c.args.case.now.question
     c.in_ok-steps.steps.items c.in_ok-steps.ensures
     (subst AreRound c.as_slice-3.ensures.value (c.is_round.ensures c.if-not-is_round.false))
-    (subst (Forbids c.args.question.level) c.as_slice-4.ensures.value (c.forbids.ensures c.if-not-forbids.false))
+    (subst (Forbids c.args.case.now.question.level) c.as_slice-4.ensures.value (c.forbids.ensures
+    c.if-not-forbids.false))
 
 pub returns-clause-cycle : goal.returns-clause-cycle
 returns-clause-cycle c = (
   subst AreRound c.as_slice-3.ensures.value (c.is_round.ensures c.if-not-is_round.false),
-  subst (Forbids c.args.question.level) c.as_slice-4.ensures.value (c.forbids.ensures c.if-not-forbids.false),
+  subst (Forbids c.args.case.now.question.level) c.as_slice-4.ensures.value (c.forbids.ensures c.if-not-forbids.false),
   c.in_ok-steps.ensures,
   subst (λ (q : List CycleStep). Needs q c.beside_of-beside.result) c.as_slice-5.ensures.value
       c.beside_of-beside.ensures,

@@ -8,33 +8,33 @@ use Rattle.tx_verdict.proofs.facts.wrong_update.Goals as goal
 
 pub returns : goal.returns
 returns c =
-    let r = c.args.recording.now in
-    let views = c.args.views.now in
+    let r = c.args.case.now.recording.now in
+    let views = c.args.case.now.views.now in
     let one = get_or views c.args.lost.first no_view in
     let other = get_or views c.args.lost.second no_view in
-    fact_lost_update r one other (put_once r c.args.owners.now c.requires.owners)
-    (c.requires.views one (Contains-get_or views c.args.lost.first no_view c.if-first-views.false))
-    (c.requires.views other (Contains-get_or views c.args.lost.second no_view c.if-second-views.false))
+    fact_lost_update r one other (put_once r c.args.case.now.owners.now c.requires.case.owners)
+    (c.requires.case.views one (Contains-get_or views c.args.lost.first no_view c.if-first-case.false))
+    (c.requires.case.views other (Contains-get_or views c.args.lost.second no_view c.if-second-case.false))
     c.if-one-other.false c.if-one-other-2.false (c.is_same.ensures c.if-not-is_same.false)
     (c.is_update-first_puts.ensures c.if-not-first_puts.false)
     (c.is_update-second_puts.ensures c.if-not-second_puts.false)
 
 pub is_same-requires-clause-one : goal.is_same-requires-clause-one
 is_same-requires-clause-one c =
-    c.requires.views (get_or c.args.views.now c.args.lost.first no_view)
-    (Contains-get_or c.args.views.now c.args.lost.first no_view c.if-first-views.false)
+    c.requires.case.views (get_or c.args.case.now.views.now c.args.lost.first no_view)
+    (Contains-get_or c.args.case.now.views.now c.args.lost.first no_view c.if-first-case.false)
 
 pub is_same-requires-clause-other : goal.is_same-requires-clause-other
 is_same-requires-clause-other c =
-    c.requires.views (get_or c.args.views.now c.args.lost.second no_view)
-    (Contains-get_or c.args.views.now c.args.lost.second no_view c.if-second-views.false)
+    c.requires.case.views (get_or c.args.case.now.views.now c.args.lost.second no_view)
+    (Contains-get_or c.args.case.now.views.now c.args.lost.second no_view c.if-second-case.false)
 
 pub is_update-first_puts-requires-clause-view : goal.is_update-first_puts-requires-clause-view
 is_update-first_puts-requires-clause-view c =
-    c.requires.views (get_or c.args.views.now c.args.lost.first no_view)
-    (Contains-get_or c.args.views.now c.args.lost.first no_view c.if-first-views.false)
+    c.requires.case.views (get_or c.args.case.now.views.now c.args.lost.first no_view)
+    (Contains-get_or c.args.case.now.views.now c.args.lost.first no_view c.if-first-case.false)
 
 pub is_update-second_puts-requires-clause-view : goal.is_update-second_puts-requires-clause-view
 is_update-second_puts-requires-clause-view c =
-    c.requires.views (get_or c.args.views.now c.args.lost.second no_view)
-    (Contains-get_or c.args.views.now c.args.lost.second no_view c.if-second-views.false)
+    c.requires.case.views (get_or c.args.case.now.views.now c.args.lost.second no_view)
+    (Contains-get_or c.args.case.now.views.now c.args.lost.second no_view c.if-second-case.false)

@@ -6,15 +6,15 @@ use Rattle.tx_verdict.proofs.facts.wrong_views.Goals as goal
 
 pub wrong_view-requires-clause-view : goal.wrong_view-requires-clause-view
 wrong_view-requires-clause-view c =
-    c.requires.views (get_or c.args.views.now c.loop-i.i no_view)
-    (Contains-get_or c.args.views.now c.loop-i.i no_view c.loop-i-test.true)
+    c.requires.case.views (get_or c.args.case.now.views.now c.loop-i.i no_view)
+    (Contains-get_or c.args.case.now.views.now c.loop-i.i no_view c.loop-i-test.true)
 
 pub wrong_again-found-requires-clause-before : goal.wrong_again-found-requires-clause-before
 wrong_again-found-requires-clause-before c =
-    c.requires.views (get_or c.args.views.now c.in-Some.before no_view)
-    (Contains-get_or c.args.views.now c.in-Some.before no_view c.in-Some.ensures)
+    c.requires.case.views (get_or c.args.case.now.views.now c.in-Some.before no_view)
+    (Contains-get_or c.args.case.now.views.now c.in-Some.before no_view c.in-Some.ensures)
 
 pub wrong_again-found-requires-clause-view : goal.wrong_again-found-requires-clause-view
 wrong_again-found-requires-clause-view c =
-    c.requires.views (get_or c.args.views.now c.loop-i.i no_view)
-    (Contains-get_or c.args.views.now c.loop-i.i no_view c.loop-i-test.true)
+    c.requires.case.views (get_or c.args.case.now.views.now c.loop-i.i no_view)
+    (Contains-get_or c.args.case.now.views.now c.loop-i.i no_view c.loop-i-test.true)

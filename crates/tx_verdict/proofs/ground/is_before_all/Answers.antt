@@ -6,6 +6,6 @@ use Rattle.tx_verdict.proofs.ground.is_before_all.Goals as goal
 
 pub sees_nothing-requires : goal.sees_nothing-requires
 sees_nothing-requires c = record {
-  view = c.requires.views (get_or c.args.views.now c.args.view no_view)
-      (Contains-get_or c.args.views.now c.args.view no_view (grind (arith, c.if-view-views.false)));
+  view = c.requires.case.views (get_or c.args.case.now.views.now c.args.view no_view)
+      (Contains-get_or c.args.case.now.views.now c.args.view no_view (grind (arith, c.if-view-case.false)));
 }

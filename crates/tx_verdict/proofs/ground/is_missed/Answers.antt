@@ -5,12 +5,13 @@ use Rattle.tx_verdict.proofs.Direct.{order_with, step_with}
 use Rattle.tx_verdict.proofs.ground.is_missed.Goals as goal
 
 pub returns-in-Known : goal.returns-in-Known
-returns-in-Known c is = inr (order_with c.args.recording.now c.args.known.now c.args.step Rw c.in-Some.key
+returns-in-Known c is = inr (order_with c.args.case.now.recording.now c.args.known.now c.args.step Rw c.in-Some.key
     c.in-Some.ensures
     (c.args.writer, c.is_seen.ensures c.if-not-is_seen.false, c.in_ok-is.ensures is))
 
 pub returns : goal.returns
-returns c is = inl (step_with c.args.recording.now c.args.orders c.args.step Rw c.in-Some.key c.in-Some.ensures (
-  c.has_written.ensures c.if-not-has_written.false,
-  inr (c.args.writer, c.is_seen.ensures c.if-not-is_seen.false, c.in_ok-is-2.ensures is),
-))
+returns c is = inl (step_with c.args.case.now.recording.now c.args.case.now.question.orders c.args.step Rw
+    c.in-Some.key c.in-Some.ensures (
+      c.has_written.ensures c.if-not-has_written.false,
+      inr (c.args.writer, c.is_seen.ensures c.if-not-is_seen.false, c.in_ok-is-2.ensures is),
+    ))

@@ -6,5 +6,5 @@ use Rattle.tx_verdict.proofs.ground.is_seen.Goals as goal
 
 pub sees_writer-requires-clause-view : goal.sees_writer-requires-clause-view
 sees_writer-requires-clause-view c =
-    c.requires.views (get_or c.args.views.now c.args.view no_view)
-    (Contains-get_or c.args.views.now c.args.view no_view (grind (arith, c.if-view-views.false)))
+    c.requires.case.views (get_or c.args.case.now.views.now c.args.view no_view)
+    (Contains-get_or c.args.case.now.views.now c.args.view no_view (grind (arith, c.if-view-case.false)))

@@ -6,10 +6,10 @@ use Rattle.tx_verdict.proofs.lists.wrong_longest.Goals as goal
 
 pub wrong_twice-found-requires-clause-view : goal.wrong_twice-found-requires-clause-view
 wrong_twice-found-requires-clause-view c =
-    c.requires.views (get_or c.args.views.now c.in-Some.place no_view)
-    (Contains-get_or c.args.views.now c.in-Some.place no_view c.in-Some.ensures)
+    c.requires.case.views (get_or c.args.case.now.views.now c.in-Some.place no_view)
+    (Contains-get_or c.args.case.now.views.now c.in-Some.place no_view c.in-Some.ensures)
 
 pub wrong_blocks-requires-clause-view : goal.wrong_blocks-requires-clause-view
 wrong_blocks-requires-clause-view c =
-    c.requires.views (get_or c.args.views.now c.in-Some.place no_view)
-    (Contains-get_or c.args.views.now c.in-Some.place no_view c.in-Some.ensures)
+    c.requires.case.views (get_or c.args.case.now.views.now c.in-Some.place no_view)
+    (Contains-get_or c.args.case.now.views.now c.in-Some.place no_view c.in-Some.ensures)

@@ -6,10 +6,10 @@ use Rattle.tx_verdict.proofs.lists.wrong_orders.Goals as goal
 
 pub wrong_order-found-requires-clause-view : goal.wrong_order-found-requires-clause-view
 wrong_order-found-requires-clause-view c =
-    c.requires.views (get_or c.args.views.now c.loop-i.i no_view)
-    (Contains-get_or c.args.views.now c.loop-i.i no_view c.loop-i-test.true)
+    c.requires.case.views (get_or c.args.case.now.views.now c.loop-i.i no_view)
+    (Contains-get_or c.args.case.now.views.now c.loop-i.i no_view c.loop-i-test.true)
 
 pub wrong_order-found-requires-clause-other : goal.wrong_order-found-requires-clause-other
 wrong_order-found-requires-clause-other c =
-    c.requires.views (get_or c.args.views.now c.in-Some.other no_view)
-    (Contains-get_or c.args.views.now c.in-Some.other no_view c.in-Some.ensures)
+    c.requires.case.views (get_or c.args.case.now.views.now c.in-Some.other no_view)
+    (Contains-get_or c.args.case.now.views.now c.in-Some.other no_view c.in-Some.ensures)

@@ -10,7 +10,7 @@ use Rattle.tx_verdict.proofs.necessity.are_chains.Goals as goal
 
 pub loop-chain-preserved : goal.loop-chain-preserved
 loop-chain-preserved c =
-    let r = c.args.recording.now in
+    let r = c.args.case.now.recording.now in
     let v = c.args.versions.now in
     let lt : c.loop-chain.chain < length v.names.items =
     grind (arith, common_steps, c.loop-chain-test.true, c.len-chains.ensures) in
@@ -22,6 +22,6 @@ loop-chain-preserved c =
 pub returns : goal.returns
 returns c _ q = elim (cases_lt q c.loop-chain.chain) [
   | inl lt ↦ c.loop-chain.invariant q lt
-  | inr past ↦ no_chain c.args.recording.now c.args.versions.now q
+  | inr past ↦ no_chain c.args.case.now.recording.now c.args.versions.now q
       (grind (arith, common_steps, past, c.loop-chain-test.false, c.len-chains.ensures, c.if-chains-len.false))
 ]

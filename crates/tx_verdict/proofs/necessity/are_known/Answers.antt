@@ -14,14 +14,16 @@ loop-txn-preserved-then-not-index c =
     let v = c.args.versions.now in
     let lt : c.loop-txn.txn < length v.live.items =
     grind (arith, common_steps, c.loop-txn-test.true, c.len-txn-end.ensures) in
-    below_next (λ t. IsTrue (live_of v t) → HasCommitted c.args.recording.now t) c.loop-txn.txn c.loop-txn.invariant
+    below_next (λ t. IsTrue (live_of v t) → HasCommitted c.args.case.now.recording.now t) c.loop-txn.txn
+    c.loop-txn.invariant
     (λ is. absurd (false≢true
     (sym (live_is v c.loop-txn.txn c.index.result.now false lt c.index.ensures c.if-not-index.true) ∙ is)))
 
 pub loop-txn-preserved : goal.loop-txn-preserved
 loop-txn-preserved c =
     let v = c.args.versions.now in
-    below_next (λ t. IsTrue (live_of v t) → HasCommitted c.args.recording.now t) c.loop-txn.txn c.loop-txn.invariant
+    below_next (λ t. IsTrue (live_of v t) → HasCommitted c.args.case.now.recording.now t) c.loop-txn.txn
+    c.loop-txn.invariant
     (λ _. c.is_known.ensures c.if-not-is_known.false)
 
 pub returns : goal.returns

@@ -12,21 +12,22 @@ use Rattle.tx_verdict.proofs.necessity.are_reads.Goals as goal
 
 pub loop-i-preserved : goal.loop-i-preserved
 loop-i-preserved c =
-    let r = c.args.recording.now in
+    let r = c.args.case.now.recording.now in
     let v = c.args.versions.now in
     let reads = v.recorded.reads.items in
     let i = c.loop-i.i in
-    let lt : i < length reads = grind (arith, common_steps, c.loop-i-test.true, c.if-len-views.false) in
+    let lt : i < length reads = grind (arith, common_steps, c.loop-i-test.true, c.if-len-case.false) in
     below_next (λ q. IsReadForced r v (get_or reads q no_read)) i c.loop-i.invariant
     (subst (λ (p : Read). IsReadForced r v p) (get_or_read reads i c.index.result.now lt c.index.ensures no_read)
     (c.is_read.ensures c.if-not-is_read.false))
 
 pub returns : goal.returns
-returns c _ = by_place (IsReadForced c.args.recording.now c.args.versions.now) c.args.versions.now.recorded.reads.items
+returns c _ = by_place (IsReadForced c.args.case.now.recording.now c.args.versions.now)
+    c.args.versions.now.recorded.reads.items
     no_read
-    (λ i lt. c.loop-i.invariant i (grind (arith, common_steps, c.loop-i-test.false, c.if-len-views.false, lt)))
+    (λ i lt. c.loop-i.invariant i (grind (arith, common_steps, c.loop-i-test.false, c.if-len-case.false, lt)))
 
 pub is_read-requires-clause-view : goal.is_read-requires-clause-view
 is_read-requires-clause-view c =
-    c.requires.views (get_or c.args.views.now c.loop-i.i no_view)
-    (Contains-get_or c.args.views.now c.loop-i.i no_view c.loop-i-test.true)
+    c.requires.case.views (get_or c.args.case.now.views.now c.loop-i.i no_view)
+    (Contains-get_or c.args.case.now.views.now c.loop-i.i no_view c.loop-i-test.true)

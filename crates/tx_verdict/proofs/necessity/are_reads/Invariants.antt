@@ -5,4 +5,4 @@ use Rattle.tx_verdict.proofs.necessity.are_reads.Given as goal
 
 abbrev pub invariant-loop-i : goal.invariant-loop-i
 invariant-loop-i l = (i : ℕ) → i < l.i
-    → IsReadForced l.recording l.versions (get_or l.versions.recorded.reads.items i no_read)
+    → IsReadForced l.case.recording.now l.versions (get_or l.versions.recorded.reads.items i no_read)

@@ -9,12 +9,12 @@ use Rattle.tx_verdict.proofs.refutation.is_settled.Goals as goal
 
 pub returns : goal.returns
 returns c _ =
-    let r = c.args.recording.now in
+    let r = c.args.case.now.recording.now in
     let o = c.args.fact.now.order in
     let known = c.args.known.now.items in
     let round = c.in_ok-is_round_by.ensures c.if-not-branch.false in
-    let P : List WriteOrder → Type 0 = λ q. IsRoundBy r c.args.question q c.as_slice-2.result.now in
-    let Q : List CycleStep → Type 0 = λ q. IsRoundBy r c.args.question (known ++ opposite o ∷ []) q in
+    let P : List WriteOrder → Type 0 = λ q. IsRoundBy r c.args.case.now.question q c.as_slice-2.result.now in
+    let Q : List CycleStep → Type 0 = λ q. IsRoundBy r c.args.case.now.question (known ++ opposite o ∷ []) q in
     let len : c.len-count.result ≡ length known = grind (arith, common_steps, c.len-count.ensures) in
     let seam : slice_set (known ++ opposite o ∷ []) (length known) o ≡ known ++ o ∷ [] =
     set-append_seam known (opposite o) [] o in (

@@ -14,7 +14,8 @@ told_step-requires-clause-step c =
 
 pub loop-i-preserved : goal.loop-i-preserved
 loop-i-preserved c =
-    let r = c.args.recording.now in
-    steps_more r c.args.orders c.loop-i.told.items c.push_step.new.steps.items (Some c.in_ok-step.step)
-    c.loop-i.invariant (if_step r c.args.orders (Some c.in_ok-step.step) c.in_ok-step.ensures)
+    let r = c.args.case.now.recording.now in
+    steps_more r c.args.case.now.question.orders c.loop-i.told.items c.push_step.new.steps.items (Some
+    c.in_ok-step.step)
+    c.loop-i.invariant (if_step r c.args.case.now.question.orders (Some c.in_ok-step.step) c.in_ok-step.ensures)
     c.in_ok-push_step.ensures.kept

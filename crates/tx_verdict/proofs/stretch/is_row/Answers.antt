@@ -7,7 +7,7 @@ use Rattle.tx_verdict.proofs.stretch.is_row.Goals as goal
 
 pub loop-i-preserved : goal.loop-i-preserved
 loop-i-preserved c =
-    let r = c.args.recording.now in
+    let r = c.args.case.now.recording.now in
     let ws = c.args.writers.now in
     below_next (λ q. HasWritten r (slice_index ws q) c.args.key × IsBased r c.args.key ws q) c.loop-i.i
     c.loop-i.invariant

@@ -5,4 +5,4 @@ use Rattle.tx_verdict.proofs.stretch.is_row.Given as goal
 
 abbrev pub invariant-loop-i : goal.invariant-loop-i
 invariant-loop-i l = (i : ℕ) → i < l.i
-    → HasWritten l.recording (slice_index l.writers i) l.key × IsBased l.recording l.key l.writers i
+    → HasWritten l.case.recording.now (slice_index l.writers i) l.key × IsBased l.case.recording.now l.key l.writers i

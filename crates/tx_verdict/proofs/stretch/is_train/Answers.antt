@@ -17,7 +17,7 @@ pub loop-i-preserved : goal.loop-i-preserved
 loop-i-preserved c i from below = elim (cases_eq i c.loop-i.i) [
   | inl same ↦ (
       let one = c.in_ok-is_linked.ensures c.if-not-branch.false in
-      subst (λ q. IsCarried c.args.recording.now c.args.key c.writers_of-writers.result.now
+      subst (λ q. IsCarried c.args.case.now.recording.now c.args.key c.writers_of-writers.result.now
       c.args.stretch.first c.args.other q)
       (sym same) (one.0, one.1, λ ne. one.2 (differs c.loop-i.i c.args.stretch.first ne))
       )
@@ -25,7 +25,7 @@ loop-i-preserved c i from below = elim (cases_eq i c.loop-i.i) [
 ]
 
 pub returns : goal.returns
-returns c _ = train_of c.args.recording.now c.args.key c.writers_of-writers.result.now c.args.stretch.first
+returns c _ = train_of c.args.case.now.recording.now c.args.key c.writers_of-writers.result.now c.args.stretch.first
     c.args.stretch.last c.args.first c.args.last c.args.other (grind (arith, common_steps, c.if-from-upto.false))
     (grind (arith, common_steps, c.if-writers-from.false)) (grind (arith, common_steps, c.if-writers-upto.false))
     (λ i from upto. c.loop-i.invariant i from (grind (arith, common_steps, c.loop-i-test.false, upto)))

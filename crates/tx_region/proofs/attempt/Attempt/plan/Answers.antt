@@ -8,8 +8,8 @@ use Rattle.tx_region.specs.KeyPlans.{IsCopyFor, IsPlanFor}
 use Rattle.tx_region.proofs.Attempts.{low_of, looks_of, plan_of, plan_in}
 use Rattle.tx_region.proofs.attempt.Attempt.plan.Goals as goal
 
-pub plan_on-planned-requires : goal.plan_on-planned-requires
-plan_on-planned-requires g c =
+pub plan-planned-requires : goal.plan-planned-requires
+plan-planned-requires g c =
     let inside = c.self.inside in
     let q = c.args.request.now in
     let copy = subst (λ (t : Tried). IsSomeAnd t.copy (λ x. IsCopyFor q x)) (sym c.self.view_is) c.requires in
@@ -33,13 +33,13 @@ returns-clause-plan g c =
     let old = c.args.self.now in
     let copy = subst (λ (t : Tried). IsSomeAnd t.copy (λ x. IsCopyFor q x)) (sym c.self.view_is) c.requires in
     let plans : (r : Region) → LooksLike r q.body inside.view inside.numbers
-    → IsPlan inside.loaded.mark r inside.loaded.last q.body c.plan_on-planned.result =
-    λ r looks. subst (λ (b : Body). IsPlan inside.loaded.mark r inside.loaded.last b c.plan_on-planned.result)
+    → IsPlan inside.loaded.mark r inside.loaded.last q.body c.plan-planned.result =
+    λ r looks. subst (λ (b : Body). IsPlan inside.loaded.mark r inside.loaded.last b c.plan-planned.result)
     c.body.ensures.body
-    (c.plan_on-planned.ensures r (subst (λ (b : Body). LooksLike r b inside.view inside.numbers)
+    (c.plan-planned.ensures r (subst (λ (b : Body). LooksLike r b inside.view inside.numbers)
     (sym c.body.ensures.body) looks)) in
     let is = plan_of (λ s. s.told) (λ s. s.bytes) inside.region inside.view inside.numbers inside.taken inside.loaded
-    inside.seen q c.plan_on-planned.result copy plans in
+    inside.seen q c.plan-planned.result copy plans in
     subst (λ (t : Tried). IsSomeAnd (plan_in (λ s. s.told) (λ s. s.bytes) inside.region inside.view inside.numbers
-    inside.taken inside.loaded inside.seen (Some c.plan_on-planned.result)) (λ plan. IsPlanFor q plan
+    inside.taken inside.loaded inside.seen (Some c.plan-planned.result)) (λ plan. IsPlanFor q plan
     × IsSomeAnd t.copy (λ x. (plan.region ≡ x.region) × (plan.events ≡ x.events)))) c.self.view_is is

@@ -12,7 +12,7 @@ plan-planned-requires-clause-seen g c =
     let before = region_of g.F.Holds.content c.args.self.now in (
       before 0,
       record {
-        sees = c.in_ok-view.ensures.ok;
+        sees = c.in_ok-view_into.ensures.ok;
         safe = c.numbers-copied.ensures.0;
         collected = c.numbers-copied.ensures.1;
       },
@@ -21,9 +21,9 @@ plan-planned-requires-clause-seen g c =
 pub make-requires-clause-may : goal.make-requires-clause-may
 make-requires-clause-may g c =
     let before = region_of g.F.Holds.content c.args.self.now in
-    let looks : LooksLike (before 0) c.args.body.now c.in_ok-view.view c.numbers-copied.result =
+    let looks : LooksLike (before 0) c.args.body.now c.view_into.new.place c.numbers-copied.result =
     record {
-      sees = c.in_ok-view.ensures.ok;
+      sees = c.in_ok-view_into.ensures.ok;
       safe = c.numbers-copied.ensures.0;
       collected = c.numbers-copied.ensures.1;
     } in
@@ -36,9 +36,9 @@ returns-clause-ok g c =
     let s = c.args.self.now in
     let before = region_of content s in
     let loaded = c.args.loaded.now in
-    let looks : (n : ℕ) → LooksLike (before n) c.args.body.now c.in_ok-view.view c.numbers-copied.result =
+    let looks : (n : ℕ) → LooksLike (before n) c.args.body.now c.view_into.new.place c.numbers-copied.result =
     λ n. record {
-      sees = c.in_ok-view.ensures.ok;
+      sees = c.in_ok-view_into.ensures.ok;
       safe = c.numbers-copied.ensures.0;
       collected = c.numbers-copied.ensures.1;
     } in

@@ -1,109 +1,30 @@
-use Rattle.std.proofs.Common.{◌≡◌, ℕ, sym, ap, subst, ◌∙◌}
+use Rattle.std.proofs.Common.{◌≡◌, sym, ap, subst, ◌∙◌}
+use Rattle.std.specs.Prelude.{IsSomeAnd}
 use Rattle.tx_plan.specs.declared.body.Body.{Body}
-use Rattle.tx_plan.specs.Cells.{Region}
-use Rattle.tx_core.specs.Histories.{History, left}
-use Rattle.tx_journal.specs.Known.{Known}
+use Rattle.tx_core.specs.Histories.{History}
 use Rattle.tx_journal.specs.Replies.{Asked}
-use Rattle.tx_region.specs.Copies.{IsOfKey, key_in, Sees, LooksLike}
-use Rattle.tx_region.specs.KeyPlans.{Copied, AreOf, IsCopyFor}
-use Rattle.tx_region.specs.Regions.{region_of}
-use Rattle.tx_region.specs.TakenRequests.{Loads, Knows}
-use Rattle.tx_region.proofs.Copies.{looks_same}
-use Rattle.tx_region.proofs.TakenRequests.{knows_loads}
+use Rattle.tx_region.specs.Attempts.{no_copy}
+use Rattle.tx_region.specs.Copies.{IsOfKey}
+use Rattle.tx_region.specs.KeyPlans.{IsCopyFor}
+use Rattle.tx_region.proofs.Attempts.{there_is, unwrapped}
 use Rattle.tx_region.proofs.region.Region.copy_key.Goals as goal
 
-pub spell-requires : goal.spell-requires
-spell-requires g c = subst IsOfKey
-    (sym (c.body.ensures.body ∙ ap (λ (r : Asked). r.body) c.load-loaded.ensures.request)) c.requires
+pub copy_after-requires : goal.copy_after-requires
+copy_after-requires g c = subst IsOfKey
+    (sym (c.body.ensures.body ∙ ap (λ (r : Asked). r.body) c.tell-heard.ensures.same)) c.requires
 
-pub view-requires : goal.view-requires
-view-requires g c = record {
-  of_key = subst IsOfKey (sym (c.body-2.ensures.body ∙ ap (λ (r : Asked). r.body) c.load-loaded.ensures.request))
-      c.requires;
-  of = c.in_ok-key.ensures.ok ∙ ap key_in (c.body.ensures.body ∙ sym c.body-2.ensures.body);
-}
+pub invariant_of-result : goal.invariant_of-result
+invariant_of-result g c = there_is _ c.copy_after.new.attempt.copy c.in_ok-copy_after.ensures.copy
 
 pub returns-clause-copy : goal.returns-clause-copy
 returns-clause-copy g c =
-    let bounds = g.J.JournalId.bounds in
-    let content = g.F.Holds.content in
-    let old = c.args.self.now in
-    let s = c.self.inside in
-    let n = s.seat.seat in
-    let load = c.load-loaded.ensures in
-    let q = c.load-loaded.new.request in
-    let last = c.load-loaded.result.last in
-    let mark = c.load-loaded.result.mark in
-    let was : q ≡ c.args.request.now = load.request in
-    let told : c.tell-told.result ≡ s.seat.events = c.tell-told.ensures.told in
-    let loads : Loads bounds old.seat old.events q.by q.body last mark s.seat.events =
-    subst (λ (k : Known). Loads bounds old.seat old.events q.by q.body last mark k.events)
-    (sym c.self.view_is) load.loads in
-    let knows : Knows q.by s.seat.events last =
-    knows_loads bounds old.seat old.events q.by q.body last mark s.seat.events loads in
-    let here = left s.seat.events n in
-    let looks : LooksLike here q.body c.in_ok-view.view c.numbers.result = record {
-      sees = subst (λ (r : Region). Sees r.cells q.body c.in_ok-view.view) c.self.invariant.left
-          (subst (λ (b : Body). Sees (region_of content s.records 0).cells b c.in_ok-view.view) c.body-2.ensures.body
-          c.in_ok-view.ensures.ok);
-      safe = c.numbers.ensures.0 ∙ ap (λ (r : Region). r.safe) c.self.invariant.left;
-      collected = c.numbers.ensures.1 ∙ ap (λ (r : Region). r.collected) c.self.invariant.left;
-    } in
-    let key = c.into_bytes-bytes.result in
-    let copy : Copied = record {
-      region = n;
-      events = s.seat.events;
-      key = key;
-      view = c.in_ok-view.view;
-      numbers = c.numbers.result;
-      loaded =
-          c.load-loaded.result;
-    } in
-    let so : IsCopyFor q copy = record {
-      of_key = subst (λ (r : Asked). IsOfKey r.body) (sym was) c.requires;
-      its_key = c.into_bytes-bytes.ensures ∙ c.in_ok-key.ensures.ok ∙ ap key_in c.body.ensures.body;
-      knows = knows;
-      is_mark = loads.is_mark;
-      looks = λ region same. looks_same q.body here region c.in_ok-view.view c.numbers.result same looks;
-    } in
-    let same = c.tell-told.ensures.same in
-    let number : c.number.result ≡ n = c.number.ensures.number ∙ ap (λ (k : Known). k.seat) same in (
-      subst (λ (x : Asked × ℕ × History). IsCopyFor x.0 (record {
-        region = x.1;
-        events = x.2;
-        key = key;
-        view = c.in_ok-view.view;
-        numbers = c.numbers.result;
-        loaded = c.load-loaded.result;
-      }))
-          (λ i. (was i, sym number i, sym told i)) so,
-      c.number.ensures.number,
-      told ∙ ap (λ (k : Known). k.events) (sym same),
-    )
-
-pub invariant_of-result : goal.invariant_of-result
-invariant_of-result g c =
-    let bounds = g.J.JournalId.bounds in
-    let old = c.args.self.now in
-    let s = c.self.inside in
-    let n = s.seat.seat in
-    let load = c.load-loaded.ensures in
-    let q = c.load-loaded.new.request in
-    let last = c.load-loaded.result.last in
-    let mark = c.load-loaded.result.mark in
-    let told : c.tell-told.result ≡ s.seat.events = c.tell-told.ensures.told in
-    let number : c.number.result ≡ n = c.number.ensures.number ∙ ap (λ (k : Known). k.seat) c.tell-told.ensures.same in
-    let loads : Loads bounds old.seat old.events q.by q.body last mark s.seat.events =
-    subst (λ (k : Known). Loads bounds old.seat old.events q.by q.body last mark k.events)
-    (sym c.self.view_is) load.loads in
-    let knows : Knows q.by s.seat.events last =
-    knows_loads bounds old.seat old.events q.by q.body last mark s.seat.events loads in
-    let are : AreOf s.seat.events n c.numbers.result s.records.taken c.load-loaded.result = record {
-      safe = c.numbers.ensures.0 ∙ ap (λ (r : Region). r.safe) c.self.invariant.left;
-      collected = c.numbers.ensures.1 ∙ ap (λ (r : Region). r.collected) c.self.invariant.left;
-      count = c.self.invariant.count;
-      was = (knows.point, knows.upto, knows.is_last);
-      low = load.loads.low;
-    } in
-    subst (λ (x : History × ℕ). AreOf x.0 x.1 c.numbers.result s.records.taken c.load-loaded.result)
-    (λ i. (sym told i, sym number i)) are
+    let now = c.copy_after.new.self in
+    let tell = c.tell-heard.ensures in
+    let heard : c.tell-heard.result ≡ c.args.request.now.by = tell.told in
+    let asks : c.body.result.now ≡ c.args.request.now.body = c.body.ensures.body
+    ∙ ap (λ (r : Asked). r.body) tell.same in
+    unwrapped (λ copy. IsCopyFor c.args.request.now copy × (copy.region ≡ now.seat) × (copy.events ≡ now.events))
+    c.copy_after.new.attempt.copy no_copy
+    (subst (λ (x : History × Body). IsSomeAnd c.copy_after.new.attempt.copy
+    (λ copy. IsCopyFor (record { by = x.0; body = x.1 }) copy × (copy.region ≡ now.seat) × (copy.events ≡ now.events)))
+    (λ i. (heard i, asks i)) c.in_ok-copy_after.ensures.copy)

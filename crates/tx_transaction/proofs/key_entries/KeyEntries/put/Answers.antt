@@ -8,7 +8,7 @@ use Rattle.tx_transaction.proofs.key_entries.KeyEntries.put.Goals as goal
 pub invariant_of-self : goal.invariant_of-self
 invariant_of-self c =
     let few = c.self.inside.few.items in
-    let more = c.self.inside.more.entries in
+    let more = c.self.inside.more in
     let m = c.put_over_one-mutation.result in
     let there : IsFound few c.args.key c.in-Some.i =
     found_at c.as_slice.result.now few
@@ -18,13 +18,12 @@ invariant_of-self c =
           (touched_few few more c.args.key m c.in-Some.i c.index_mut.result.now there
           c.index_mut.ensures.value),
       room_set FEW few more c.in-Some.i _ c.self.invariant.1,
-      c.self.invariant.2,
     )
 
 pub returns-in-Some-clause-ok : goal.returns-in-Some-clause-ok
 returns-in-Some-clause-ok c =
     let few = c.self.inside.few.items in
-    let more = c.self.inside.more.entries in
+    let more = c.self.inside.more in
     let m = c.put_over_one-mutation.result in
     let there : IsFound few c.args.key c.in-Some.i =
     found_at c.as_slice.result.now few
@@ -39,7 +38,7 @@ returns-in-Some-clause-ok c =
 pub invariant_of-self-then-len-lt-FEW : goal.invariant_of-self-then-len-lt-FEW
 invariant_of-self-then-len-lt-FEW c =
     let few = c.self.inside.few.items in
-    let more = c.self.inside.more.entries in
+    let more = c.self.inside.more in
     let m = mutation.Put c.args.value in
     let none : IsAbsent few c.args.key =
     absent_at c.as_slice.result.now few
@@ -51,13 +50,12 @@ invariant_of-self-then-len-lt-FEW c =
           (ap (λ (l : Entries). l ++ more) c.in_ok-push.ensures.items
           ∙ touched_last few more c.args.key m empty none),
       inl empty,
-      c.self.invariant.2,
     )
 
 pub returns-then-len-lt-FEW-clause-ok : goal.returns-then-len-lt-FEW-clause-ok
 returns-then-len-lt-FEW-clause-ok c =
     let few = c.self.inside.few.items in
-    let more = c.self.inside.more.entries in
+    let more = c.self.inside.more in
     let m = mutation.Put c.args.value in
     let none : IsAbsent few c.args.key =
     absent_at c.as_slice.result.now few

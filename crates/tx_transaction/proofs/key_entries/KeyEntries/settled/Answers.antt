@@ -7,15 +7,15 @@ use Rattle.tx_transaction.proofs.key_entries.KeyEntries.settled.Goals as goal
 pub returns-clause-within : goal.returns-clause-within
 returns-clause-within c =
     let few = c.self.inside.few.items in
-    let more = c.self.inside.more.entries in
+    let more = c.self.inside.more in
     subst (λ es. c.len-few.result ≤ length es) c.self.view_is
     (omega (arith, c.len-few.ensures, length-append few more))
 
 pub returns-clause-settled : goal.returns-clause-settled
 returns-clause-settled c =
     let few = c.self.inside.few.items in
-    let more = c.self.inside.more.entries in
-    settled_behind c.args.phase few more c.args.self.now c.len-few.result c.keys-keys.result c.saturating_add.result
+    let more = c.self.inside.more in
+    settled_behind c.args.phase few more c.args.self.now c.len-few.result c.settled-keys.result c.saturating_add.result
     c.self.view_is (omega (arith, c.len-few.ensures))
-    (omega (arith, c.saturating_add.ensures, min-le_left (c.len-few.result + c.keys-keys.result) (2 ^ 64 - 1)))
-    (c.keys-keys.ensures.settled more c.self.invariant.2)
+    (omega (arith, c.saturating_add.ensures, min-le_left (c.len-few.result + c.settled-keys.result) (2 ^ 64 - 1)))
+    c.settled-keys.ensures

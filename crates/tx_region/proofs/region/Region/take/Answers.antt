@@ -5,26 +5,26 @@ use Rattle.tx_journal.specs.Known.{Known, HasSeen}
 use Rattle.tx_journal.specs.Replies.{Asked}
 use Rattle.tx_region.specs.Calls.{TakesNoMemory}
 use Rattle.tx_region.specs.TakenRequests.{Answered}
-use Rattle.tx_region.proofs.region.Region.answer.Goals as goal
+use Rattle.tx_region.proofs.region.Region.take.Goals as goal
 
-pub answer_in-requires : goal.answer_in-requires
-answer_in-requires g c = record {
+pub take_in-requires : goal.take_in-requires
+take_in-requires g c = record {
   holds = subst (λ (x : Known × Asked). Holds g.J.JournalId.bounds x.0.seat x.1.body)
       (λ i. (sym c.tell-told.ensures.same i, sym c.new-reply.ensures.0 i)) c.requires.holds;
 }
 
 pub returns-clause-answered : goal.returns-clause-answered
 returns-clause-answered g c =
-    let reply = c.answer_in.new.place in
+    let reply = c.take_in.new.place in
     subst (λ (k : Known). IfSome reply.answer (Answered g.J.JournalId.bounds k.seat k.events reply))
-    c.tell-told.ensures.same c.answer_in.ensures.answered
+    c.tell-told.ensures.same c.take_in.ensures.answered
 
 pub returns-clause-always : goal.returns-clause-always
 returns-clause-always g c none =
-    c.answer_in.ensures.always (subst (λ (q : Asked). TakesNoMemory q.body) (sym c.new-reply.ensures.0) none)
+    c.take_in.ensures.always (subst (λ (q : Asked). TakesNoMemory q.body) (sym c.new-reply.ensures.0) none)
 
 pub returns-clause-refused : goal.returns-clause-refused
 returns-clause-refused g c =
-    let now = c.answer_in.new.self in
-    subst (λ (k : Known). IfNone c.answer_in.new.place.answer (HasSeen g.J.JournalId.bounds k.seat k.events now.events))
-    c.tell-told.ensures.same c.answer_in.ensures.refused
+    let now = c.take_in.new.self in
+    subst (λ (k : Known). IfNone c.take_in.new.place.answer (HasSeen g.J.JournalId.bounds k.seat k.events now.events))
+    c.tell-told.ensures.same c.take_in.ensures.refused

@@ -8,7 +8,7 @@ use Rattle.tx_region.specs.Calls.{Executes, Counts}
 use Rattle.tx_region.specs.Regions.{region_of}
 use Rattle.tx_region.specs.TakenRequests.{Loads, Answered}
 use Rattle.tx_region.proofs.TakenRequests.{least_taken, does_taken, knows_taken, may_take_it, reads_taken, keeps_took, keeps_same, answered, if_some_is}
-use Rattle.tx_region.proofs.region.Region.answer_in.Goals as goal
+use Rattle.tx_region.proofs.region.Region.take_in.Goals as goal
 
 pub answer-requires : goal.answer-requires
 answer-requires g c = let low =
