@@ -1,5 +1,5 @@
 -- The seats of a new store, behind the region's: the resolver's, and then a slot for each.
-use Rattle.std.proofs.Common.{◌≡◌, ◌<◌, ◌+◌, ℕ, suc, List, [], ◌∷◌, map, length, slice_get, slice_index_or, drop, option_map, Some, refl, sym, ap, ◌∙◌, arith}
+use Rattle.std.proofs.Common.{◌≡◌, ◌<◌, ◌+◌, ℕ, suc, List, [], ◌∷◌, map, length, slice_get, slice_index_or, drop, option_map, Some, sym, ap, ◌∙◌, arith}
 use Rattle.std.proofs.lemmas.List.{length-map}
 use Rattle.std.proofs.lemmas.Option.{slice_get-map}
 use Rattle.tx_core.proofs.Basics.{some_same}
@@ -29,7 +29,3 @@ module _ (first resolver : Known) (rest : List Known) (count : ℕ)
       let number : suc (suc n) ≡ 2 + n = omega arith in
       ap (λ (xs : List SlotContent). slice_get xs n) is ∙ (slice_get-map Idle rest n ∙ (ap (option_map Idle) at
       ∙ ap (λ j. Some (Idle (dealt j))) number))
-
-pub no_items : {X : Type 0} (xs : List X) → length xs ≡ 0 → xs ≡ []
-no_items [] e = refl
-no_items (x ∷ xs) e = absurd (omega (arith, e))

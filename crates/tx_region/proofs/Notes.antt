@@ -78,10 +78,6 @@ module _ (before after : Content) (s t : Key → ℕ) (key : Key) (x : OnKey) (p
 pub notes_still : (past number : ℕ) (cells : Key → Cells) (s : Key → ℕ) → NotesAll past number cells s cells s
 notes_still past number cells s k = inl (refl, refl)
 
-pub counts_still : (b : Body) (taken : ℕ) (cells : Key → Cells) (s : Key → ℕ) → turn_of b ≡ 0
-    → Counts b taken cells s taken cells s
-counts_still b taken cells s none = record { turn = omega (arith, none); notes = inl (notes_still taken taken cells s) }
-
 pub counts_one : {T E : Type 0} (r : Result T E) (b : Body) (taken after_it : ℕ) (before after : Key → Cells)
     (s t : Key → ℕ) → turn_of b ≡ 1 → OnOk r (after_it ≡ taken + 1) → OnOk r (NotesAll taken after_it before s after t)
     → IfOk r (λ x. Counts b taken before s after_it after t)

@@ -39,10 +39,6 @@ pub region_put : (before after : Content) (m s c : ℕ) (key : Key) (x : OnKey) 
 region_put before after m s c key x cells only put =
     λ i. record { cells = λ q. cells_on before after key x cells only put q i; max_read = m; safe = s; collected = c }
 
--- a region whose families hold the same
-pub region_same : (before after : Content) (m s c : ℕ) → after ≡ before → region_by after m s c ≡ region_by before m s c
-region_same before after m s c same = ap (λ x. region_by x m s c) same
-
 -- a key that gets the cells that it had
 pub with_same : (region : Region) (key : Key) → with_cells region key (region.cells key) ≡ region
 with_same region key = λ i. record {

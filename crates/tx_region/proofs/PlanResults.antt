@@ -40,10 +40,6 @@ use Rattle.tx_region.proofs.TakenRequests.{may_answer, reads, tells_of}
 module _ (bounds : List Key) (k : Known) (content : Content)
     (s c : ℕ) (count : ℕ)
     (numbers : Key → ℕ) (is : HoldsWhatIsLeft bounds k (λ m. region_by content m s c) count numbers) where
-  -- a number was given out
-  pub number_low : (key : Key) → numbers key ≤ count
-  number_low key = (let low = (is.noted key).low in let counted = is.count in omega (arith, low, counted))
-
   module _ (l : History) (b : Begins l k.events)
       (copied : RegionNumbers) (taken : ℕ) (loaded : Loaded) (are : AreOf l k.seat copied taken loaded)
       (key : Key) where
@@ -183,14 +179,6 @@ module _ (bounds : List Key) (old mid : Known) (number : mid.seat ≡ old.seat)
         sym (ap (left mid.events) number ∙ left_on old.seat old.events mid.events learns.extends)
             i,
       )) same)
-
-  -- what the plan is good for there
-  pub plan_mid : plan.region ≡ old.seat → SameKey (key_in q.body) (left plan.events mid.seat)
-      (left mid.events mid.seat)
-      → IsPlan plan.loaded.mark (left mid.events mid.seat) plan.loaded.last q.body plan.planned
-  plan_mid region same = of.plans
-      (left mid.events mid.seat) (subst (λ n. SameKey (key_in q.body) (left plan.events n) (left mid.events mid.seat))
-      (number ∙ sym region) same)
 
   pub knows_mid : Knows q.by mid.events plan.loaded.last
   knows_mid = record {

@@ -1,20 +1,13 @@
 -- The table of a write buffer, behind the reference to it.
-use Rattle.std.proofs.Common.{◌≡◌, Option, Some, sym, ap, subst, ◌∙◌}
+use Rattle.std.proofs.Common.{◌≡◌, Option, Some, sym, ap, ◌∙◌}
 use Rattle.std.specs.Global.{Global}
 use Rattle.std.specs.declared.boxed.Box.{Box}
 use Rattle.tx_transaction.specs.declared.key_table.TableParts.{TableParts}
 use Rattle.tx_transaction.specs.Buffers.{Entries}
-use Rattle.tx_transaction.specs.Heads.{IsSettled}
-use Rattle.tx_transaction.specs.Tables.{entries_in, AreSettledIn}
+use Rattle.tx_transaction.specs.Tables.{entries_in}
 
 -- its entries
 pub entries_there : (o : Option (Box TableParts Global)) (b : Box TableParts Global) (t : TableParts) (es : Entries)
     → entries_in o ≡ es → o ≡ Some b → t ≡ b.value → t.entries.entries ≡ es
 entries_there o b t es view made is =
     ap (λ (u : TableParts). u.entries.entries) is ∙ sym (ap entries_in made) ∙ view
-
--- what is settled of them
-pub settled_there : (o : Option (Box TableParts Global)) (b : Box TableParts Global) (t : TableParts)
-    → AreSettledIn o → o ≡ Some b → t ≡ b.value → IsSettled t.settled t.entries.entries
-settled_there o b t kept made is =
-    subst (λ (u : TableParts). IsSettled u.settled u.entries.entries) (sym is) (subst AreSettledIn made kept)

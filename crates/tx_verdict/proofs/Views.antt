@@ -3,7 +3,7 @@ use Rattle.std.proofs.Common.{◌≡◌, ℕ, ◌+◌, ◌-◌, ◌<◌, List, [
 use Rattle.std.proofs.lemmas.List.Elements.{Contains-get_or}
 use Rattle.tx_recording.specs.declared.recording.Orders.{Orders}
 use Rattle.tx_recording.specs.declared.recording.Recording.{Recording}
-use Rattle.tx_recording.specs.Recordings.{list_of, txns_of, ops_of, no_op}
+use Rattle.tx_recording.specs.Recordings.{list_of, ops_of, no_op}
 use Rattle.tx_recording.specs.Explanations.{after, op_at, IsPut, Explanation, Sees, Explains}
 use Rattle.tx_views.specs.declared.owner.Owner.{Owner}
 use Rattle.tx_views.specs.declared.view.RecordedView.{RecordedView}
@@ -12,7 +12,6 @@ use Rattle.tx_views.specs.Views.{Saw, IsViewOf}
 use Rattle.tx_views.proofs.ValueOwners.{put_by_owner}
 use Rattle.tx_verdict.specs.Facts.{SawValue, IsPutBy}
 use Rattle.tx_verdict.specs.Reasons.{SawOf, HasCommitted}
-use Rattle.tx_clock.proofs.ClockOrder.{is_one}
 
 -- what a view says its transaction saw, it saw
 pub view_sees : (r : Recording) (orders : Orders) (x : Explanation) → Explains r orders x → (v : RecordedView)
@@ -109,7 +108,3 @@ pub nobody_puts : (r : Recording) (table : List (Option Owner)) → AreOwners r 
 nobody_puts r table owners v none u (l, put) =
     let (p, at) = put_by_owner r table u l v owners put in
     none record { txn = u; place = p } at
-
--- a view is of one of the transactions
-pub view_within : (r : Recording) (v : RecordedView) → IsViewOf r v → v.txn < txns_of r
-view_within r v (within, (p, span, (ok, act), of_key, iff)) = is_one r v.txn ok

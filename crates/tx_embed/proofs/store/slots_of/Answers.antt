@@ -1,6 +1,6 @@
 use Rattle.std.proofs.Common.{◌≡◌, ◌++◌, [], map, length, sym, ap, ◌∙◌, append-nil, arith}
+use Rattle.std.proofs.lemmas.List.{nil_from_length}
 use Rattle.tx_embed.specs.declared.client.Slot.TheVariants.{Idle}
-use Rattle.tx_embed.proofs.NewSlots.{no_items}
 use Rattle.tx_embed.proofs.store.slots_of.Goals as goal
 
 pub loop-seat-init : goal.loop-seat-init
@@ -14,6 +14,6 @@ loop-seat-init g c =
 pub returns-clause-each : goal.returns-clause-each
 returns-clause-each g c =
     let rest = c.loop-seat.seat-iterator.rest in
-    let none : rest.items ≡ [] = no_items rest.items (omega (arith, c.in-None.ensures.steps.0, rest.ok.0)) in
+    let none : rest.items ≡ [] = nil_from_length rest.items (omega (arith, c.in-None.ensures.steps.0, rest.ok.0)) in
     sym (append-nil c.loop-seat.slots.items)
     ∙ (ap (λ l. c.loop-seat.slots.items ++ map Idle l) (sym none) ∙ c.loop-seat.invariant.each)
