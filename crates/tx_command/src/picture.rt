@@ -77,7 +77,7 @@ fn width<'a>(alloc: Global) -> Result<Arg<'a>, AllocError> {
         .long("width")
         .value_name("N")
         .help(
-            "How many places a line of text has, 40 or more; unless told, what a terminal has, or it takes",
+            "How many places a line of text has, 40 or more; else as many as a terminal, or as it takes",
         )
         .allow_negative_numbers(true)
         .value_parser(ValueParser::Unsigned(LEAST_WIDTH, MOST_WIDTH))

@@ -105,7 +105,7 @@ fn lines_are_broken_below_their_last_column(rt: HostRuntime) -> Result<(), Fail>
 }
 
 // What is typed, as lines 1 and 2, and the steps that it is.
-static TYPED: [(&str, Option<&str>); 16] = [
+static TYPED: [(&str, Option<&str>); 17] = [
     ("A begin", Some(r#"["begin","A"]"#)),
     ("begin A", Some(r#"["begin","A"]"#)),
     ("A put a 1", Some(r#"["put","A","a","1"]"#)),
@@ -129,6 +129,7 @@ static TYPED: [(&str, Option<&str>); 16] = [
         Some(r#"["gc",18446744073709551616]"#),
     ),
     ("versions a", Some(r#"["versions","a"]"#)),
+    ("finish", Some(r#"["finish"]"#)),
     ("A frob a", None),
     ("A", None),
 ];

@@ -132,8 +132,8 @@ pub fn is_shorthand(line: &[u8]) -> bool {
 }
 
 /// The step of one session, `A put a x`, or of none, `tick 3`, that was typed so for the line of
-/// this number: as a line of a script. A word with blanks in it is typed as a JSON string. None
-/// where no word is that of a step.
+/// this number: as a line of a script. A word with blanks in it is typed as a JSON string, and what
+/// a step wants and no word says is left out. None where no word is that of a step.
 pub fn step_typed(alloc: Global, number: u64, text: &str) -> Result<Option<Vec<u8>>, AllocError> {
     let words = words_in(alloc, text)?;
     let (Some(first), second) = (words.first(), words.get(1)) else {
@@ -144,7 +144,10 @@ pub fn step_typed(alloc: Global, number: u64, text: &str) -> Result<Option<Vec<u
         return Ok(Some(step_with(alloc, first, form, rest)?));
     }
     let Some(second) = second else {
-        return Ok(None);
+        return match form_of(InputKind::Script, number, first) {
+            Some(form) => Ok(Some(step_with(alloc, first, form, rest)?)),
+            None => Ok(None),
+        };
     };
     let (word, form, name) = match form_of(InputKind::Script, number, second) {
         Some(form) => (second, form, first),
