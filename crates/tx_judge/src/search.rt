@@ -50,7 +50,8 @@ fn verdict_by(
     verdict_in(alloc, case, lives, parts, order, Asked::All)
 }
 
-// What the recording is, with those puts in one of these question, or in which they are recorded.
+// What the recording is, with those puts in one of these orders, or in that in which they are
+// recorded.
 fn verdict_found(
     alloc: Global,
     case: &Case<'_>,
