@@ -13,5 +13,6 @@ returns-in-Some-clause-entries c =
 pub returns-in-Some-clause-settled : goal.returns-in-Some-clause-settled
 returns-in-Some-clause-settled c settled =
     let es = c.args.self.now.entries.entries in
-    subst (IsSettled c.after-self.result) (sym (noted es c.args.i c.in-Some.entry.now c.mark.new.progress c.in-Some.ensures.value))
+    subst (IsSettled c.after-self.result)
+    (sym (noted es c.args.i c.in-Some.entry.now c.mark.new.progress c.in-Some.ensures.value))
     (c.after-self.ensures es c.requires settled)
