@@ -4,13 +4,10 @@
 mod explain;
 mod pictures;
 
-use crate::pictures::Pictures;
+use crate::pictures::Shows;
 use std::process::ExitCode;
-use tx_shell::{terminal_width, txkv};
+use tx_shell::txkv;
 
 fn main(rt: HostRuntime) -> ExitCode {
-    let pictures = Pictures {
-        width: terminal_width(&rt),
-    };
-    txkv(&rt, &pictures, rt)
+    txkv(&rt, &Shows, rt)
 }

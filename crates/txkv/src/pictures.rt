@@ -8,15 +8,15 @@ use tx_explain::{PictureOptions, explain};
 use tx_film::{RunQuestion, ScriptStop};
 use tx_flat::FlatCells;
 use tx_nested::NestedCells;
-use tx_shell::MoreCommands;
+use tx_shell::{MoreCommands, terminal_width};
 use tx_terminal::{Answers, converse, go_on};
 use tx_text::{Broken, End};
 
-/// What draws runs, answers questions on them, and plays scripts that go on.
+/// What draws runs and answers questions on them, at a terminal.
 #[derive(Drop)]
-pub(crate) struct Pictures {
-    /// How many places a line has at a terminal.
-    pub width: usize,
+struct Pictures {
+    /// How many places a line has there.
+    width: usize,
 }
 
 impl Answers for Pictures {
@@ -40,7 +40,11 @@ impl Answers for Pictures {
     }
 }
 
-impl MoreCommands for Pictures {
+/// What draws runs, answers questions on them, and plays scripts that go on.
+#[derive(Drop)]
+pub(crate) struct Shows;
+
+impl MoreCommands for Shows {
     fn converse<I: BufRead, O: Write>(
         &self,
         host: HostRuntime,
@@ -48,9 +52,12 @@ impl MoreCommands for Pictures {
         reader: &mut I,
         writer: &mut O,
     ) -> Result<End, Broken> {
+        let pictures = Pictures {
+            width: terminal_width(&host),
+        };
         match cells {
-            CellsKind::Flat => converse::<FlatCells, _, _, _>(host, self, reader, writer),
-            CellsKind::Nested => converse::<NestedCells, _, _, _>(host, self, reader, writer),
+            CellsKind::Flat => converse::<FlatCells, _, _, _>(host, &pictures, reader, writer),
+            CellsKind::Nested => converse::<NestedCells, _, _, _>(host, &pictures, reader, writer),
         }
     }
 
