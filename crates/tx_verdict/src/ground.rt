@@ -161,7 +161,8 @@ fn is_written(
 ) -> Result<bool, AllocError>
     requires case { IsCase case.now }
     requires history { IsRecorded versions.now.recorded }
-    ensures { IfOk result (λ is. IsTrue is → IsStepBy case.now.recording.now case.now.question.orders known.now step) }
+    ensures { IfOk result (λ is. IsTrue is
+        → IsStepBy case.now.recording.now case.now.question.orders known.now step) }
 {
     let Some(key) = key_with(step, EdgeKind::Ww) else {
         return Ok(false);
@@ -212,7 +213,8 @@ fn is_missed(
 ) -> Result<bool, AllocError>
     requires case { IsCase case.now }
     requires history { IsRecorded versions.now.recorded }
-    ensures { IfOk result (λ is. IsTrue is → IsStepBy case.now.recording.now case.now.question.orders known.now step) }
+    ensures { IfOk result (λ is. IsTrue is
+        → IsStepBy case.now.recording.now case.now.question.orders known.now step) }
 {
     let Some(key) = key_with(step, EdgeKind::Rw) else {
         return Ok(false);
@@ -260,7 +262,8 @@ pub(crate) fn is_step_by(
 ) -> Result<bool, AllocError>
     requires case { IsCase case.now }
     requires history { IsRecorded versions.now.recorded }
-    ensures { IfOk result (λ is. IsTrue is → IsStepBy case.now.recording.now case.now.question.orders known.now step) }
+    ensures { IfOk result (λ is. IsTrue is
+        → IsStepBy case.now.recording.now case.now.question.orders known.now step) }
 {
     match ground {
         Ground::Asked => Ok(is_asked(case, step)),

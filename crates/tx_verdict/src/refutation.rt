@@ -74,7 +74,8 @@ pub(crate) fn is_round_by(
 ) -> Result<bool, AllocError>
     requires case { IsCase case.now }
     requires history { IsRecorded versions.now.recorded }
-    ensures { IfOk result (λ is. IsTrue is → IsRoundBy case.now.recording.now case.now.question known.now steps.now) }
+    ensures { IfOk result (λ is. IsTrue is
+        → IsRoundBy case.now.recording.now case.now.question known.now steps.now) }
 {
     if !is_round(steps) {
         return Ok(false);
