@@ -1,33 +1,34 @@
 //! Whether a recording is snapshot isolation, or serializable.
-ghost use Rattle.std.specs.Prelude.{IfOk, IfSome, IsTrue};
+ghost use Rattle.std.specs.Prelude.{IfOk};
 ghost use Rattle.tx_recording.specs.Recordings.{IsRecording};
 ghost use Rattle.tx_views.specs.Views.{IsViewed};
 ghost use Rattle.tx_views.specs.Owners.{AreOwners, IsOwned};
 ghost use Rattle.tx_verdict.specs.Cases.{IsWhole};
-ghost use Rattle.tx_verdict.specs.Facts.{AreLists};
-ghost use Rattle.tx_verdict.specs.Verdicts.{IsVerdict, IsWrong};
+ghost use Rattle.tx_verdict.specs.Verdicts.{IsVerdict};
 
 use crate::search::judge_parts;
 use std::alloc::{AllocError, Global};
 use tx_chains::{ChainParts, follows_of, lives_of, number, put_at, puts_of};
 use tx_recording::Recording;
 use tx_verdict::{
-    Case, Fact, HistoryVerdict, Question, are_lists, internal, wrong_lists, wrong_update,
+    Case, HistoryVerdict, Question, holds_list, internal, list_keys, wrong_lists, wrong_update,
     wrong_views,
 };
 use tx_views::{Owned, Owner, RecordedView, Viewed, owners, views};
 
-// By key, the view with most values, where keys hold lists.
-fn longest_of(alloc: Global, case: &Case<'_>, lists: bool) -> Result<Vec<Option<u32>>, AllocError> {
+// By key, the view with most values, where the key holds a list.
+fn longest_of(
+    alloc: Global,
+    case: &Case<'_>,
+    lists: &[bool],
+) -> Result<Vec<Option<u32>>, AllocError> {
     let mut longest = vec![in alloc; None; case.recording.keys as usize]?;
-    if !lists {
-        return Ok(longest);
-    }
     let views = case.views;
     for place in 0..views.len() {
-        let key = views[place].key as usize;
-        if views[place].span.count > count_at(longest.as_slice(), views, key) {
-            put_at(longest.as_mut_slice(), key, Some(number(place)));
+        let key = views[place].key;
+        let most = count_at(longest.as_slice(), views, key as usize);
+        if holds_list(lists, key) && views[place].span.count > most {
+            put_at(longest.as_mut_slice(), key as usize, Some(number(place)));
         }
     }
     Ok(longest)
@@ -44,23 +45,6 @@ fn count_at(longest: &[Option<u32>], views: &[RecordedView], key: usize) -> u32 
     }
 }
 
-// What is wrong with the lists that were seen, where keys hold lists.
-fn wrong_lists_if(
-    alloc: Global,
-    case: &Case<'_>,
-    longest: &[Option<u32>],
-    lists: bool,
-) -> Result<Option<Fact>, AllocError>
-    requires case { IsWhole case.now }
-    requires lists { IsTrue lists → AreLists case.now.recording.now }
-    ensures { IfOk result (λ found. IfSome found (IsWrong case.now.recording.now)) }
-{
-    if !lists {
-        return Ok(None);
-    }
-    wrong_lists(alloc, case, longest)
-}
-
 // What the recording is, by what was seen.
 fn judge_views(alloc: Global, case: &Case<'_>, budget: u32) -> Result<HistoryVerdict, AllocError>
     requires case { IsWhole case.now }
@@ -69,10 +53,9 @@ fn judge_views(alloc: Global, case: &Case<'_>, budget: u32) -> Result<HistoryVer
     if let Some(fact) = wrong_views(alloc, case)? {
         return Ok(HistoryVerdict::Fact(fact));
     }
-    let lists = are_lists(case.recording);
-    let longest = longest_of(alloc, case, lists)?;
-    let table = longest.as_slice();
-    if let Some(fact) = wrong_lists_if(alloc, case, table, lists)? {
+    let lists = list_keys(alloc, case.recording)?;
+    let longest = longest_of(alloc, case, lists.as_slice())?;
+    if let Some(fact) = wrong_lists(alloc, case, lists.as_slice(), longest.as_slice())? {
         return Ok(HistoryVerdict::Fact(fact));
     }
     let lives = lives_of(alloc, case)?;

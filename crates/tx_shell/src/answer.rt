@@ -60,24 +60,14 @@ where
 {
     let alloc = rt.alloc();
     let output = Escaping::new(alloc, Erasing::new(output, asked.progress), asked.is_shown);
-    let Ok(writer) = BufWriter::new(alloc, output) else {
-        return Err(Broken::Memory);
-    };
-    let shared = RefCell::new(writer);
-    let terminal = if asked.prompts {
-        Some(asked.host)
-    } else {
-        None
-    };
+    let shared = RefCell::new(BufWriter::new(alloc, output)?);
     let dropped = RefCell::new(Dropped::new(alloc));
     let copy = RefCell::new(Vec::new(alloc));
     let counted = Counted::new(input, asked.progress);
     let steps = Comments::new(counted, &dropped, asked.job.has_comments);
     let copied = Copied::new(steps, &copy, asked.kept());
-    let asking = Asking::new(copied, Shared::new(&shared), terminal);
-    let Ok(mut reader) = Recent::new(alloc, asking) else {
-        return Err(Broken::Memory);
-    };
+    let asking = Asking::new(copied, Shared::new(&shared), asked.prompter());
+    let mut reader = Recent::new(alloc, asking)?;
     let mut writer = Noting::new(alloc, Shared::new(&shared));
     let mut stages = Stages::new(alloc);
     let ended = perform(

@@ -27,6 +27,11 @@ impl Invocation<'_> {
             )
     }
 
+    /// Who shows a prompt, where one is shown.
+    pub(crate) fn prompter(&self) -> Option<HostRuntime> {
+        if self.prompts { Some(self.host) } else { None }
+    }
+
     /// Whether it is said of each fault why it is one, as it comes.
     pub(crate) fn says_why(&self) -> bool {
         self.is_talk() || self.job.task == CommandTask::SimulateOn

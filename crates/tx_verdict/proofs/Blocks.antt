@@ -1,20 +1,20 @@
 -- What a transaction appended stands where it was appended, in all that is seen.
-use Rattle.std.proofs.Common.{◌≡◌, ◌⊎◌, ◌≢◌, ℕ, ◌+◌, ◌-◌, ◌<◌, ◌≤◌, List, [], ◌∷◌, ◌++◌, length, take, drop, get_or, Contains, arith, inl, inr, refl, sym, ap, ◌∙◌, subst, zero, suc, IsTrue, false, cond, ◌==◌}
+use Rattle.std.proofs.Common.{◌≡◌, ◌⊎◌, ℕ, ◌+◌, ◌-◌, ◌<◌, ◌≤◌, List, [], ◌∷◌, ◌++◌, length, take, get_or, Contains, arith, inl, inr, refl, sym, ap, ◌∙◌, subst, zero, suc, false, cond, ◌==◌}
 use Rattle.std.proofs.lemmas.Bool.{cases_eq, cases_lt}
 use Rattle.std.proofs.lemmas.List.{get_or_append_left, get_or-append_right, length-append, append_assoc, take_at, take-append-le, append-nil}
-use Rattle.std.proofs.lemmas.List.Elements.{Contains-get_or, Contains-append_right}
+use Rattle.std.proofs.lemmas.List.Elements.{Contains-get_or}
 use Rattle.tx_recording.specs.declared.recording.Act.{Act}
 use Rattle.tx_recording.specs.declared.recording.Act.TheVariants.{Append, Write, Read}
 use Rattle.tx_recording.specs.declared.recording.RecordedOp.{RecordedOp}
 use Rattle.tx_recording.specs.declared.recording.Orders.{Orders}
 use Rattle.tx_recording.specs.declared.recording.Recording.{Recording}
 use Rattle.tx_recording.specs.Recordings.{ops_of}
-use Rattle.tx_recording.specs.Explanations.{act_on, after, Puts, PutsIn, IsPut, ArePutOnce, Explanation, IsWriter, Sees, Explains}
-use Rattle.tx_recording.proofs.Puts.{after_same, after_other, after_contains, puts_more, puts_head}
+use Rattle.tx_recording.specs.Explanations.{act_on, after, Puts, PutsIn, IsPut, ArePutOnce, Explanation, Sees, Explains}
+use Rattle.tx_recording.proofs.Puts.{after_same, after_other, puts_more, puts_head}
 use Rattle.tx_views.specs.declared.effect.Effect.{Effect}
-use Rattle.tx_views.specs.Views.{IsEffect, left_by}
+use Rattle.tx_views.specs.Views.{IsEffect}
 use Rattle.tx_views.proofs.ReadViews.{appended}
-use Rattle.tx_verdict.proofs.Distinct.{IsDistinct, IsOnce, seen_distinct}
+use Rattle.tx_verdict.proofs.Distinct.{IsOnce, seen_distinct}
 
 -- operations leave these values in place of what there was, or behind it; and they put them
 pub record Splits (os : List RecordedOp) (k : ℕ) : Type 0 where

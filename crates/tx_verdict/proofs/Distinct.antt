@@ -1,7 +1,7 @@
 -- What is seen has each value once.
-use Rattle.std.proofs.Common.{◌≡◌, ◌⊎◌, ◌≢◌, ℕ, ◌+◌, ◌-◌, ◌<◌, ◌≤◌, List, [], ◌∷◌, ◌++◌, length, take, drop, get_or, Contains, arith, inl, inr, refl, sym, ap, ◌∙◌, subst, zero, suc, IsTrue}
+use Rattle.std.proofs.Common.{◌≡◌, ◌⊎◌, ℕ, ◌+◌, ◌<◌, List, [], ◌∷◌, ◌++◌, length, get_or, Contains, arith, inl, inr, refl, sym, ap, ◌∙◌, subst, zero, suc}
 use Rattle.std.proofs.lemmas.Bool.{cases_eq, cases_lt}
-use Rattle.std.proofs.lemmas.List.{get_or_append_left, get_or-append_right, length-append, length_push, get_or_push, get_or_default}
+use Rattle.std.proofs.lemmas.List.{get_or_append_left, length_push, get_or_push, get_or_default}
 use Rattle.std.proofs.lemmas.List.Elements.{Contains-get_or, Contains-push_cases}
 use Rattle.tx_recording.specs.declared.recording.Act.{Act}
 use Rattle.tx_recording.specs.declared.recording.Act.TheVariants.{Append, Write, Read}
@@ -9,10 +9,9 @@ use Rattle.tx_recording.specs.declared.recording.RecordedOp.{RecordedOp}
 use Rattle.tx_recording.specs.declared.recording.Orders.{Orders}
 use Rattle.tx_recording.specs.declared.recording.Recording.{Recording}
 use Rattle.tx_recording.specs.Recordings.{ops_of, no_op}
-use Rattle.tx_recording.specs.Explanations.{act_on, after, Puts, PutsIn, IsPut, ArePutOnce, Explanation, IsWriter, Sees, Explains}
+use Rattle.tx_recording.specs.Explanations.{act_on, after, Puts, PutsIn, ArePutOnce, Explanation, Sees, Explains}
 use Rattle.tx_recording.proofs.Puts.{after_same, after_other, puts_more, puts_head}
 use Rattle.tx_recording.proofs.Seen.{seen_put}
-use Rattle.tx_views.proofs.ValueOwners.{puts_one}
 pub use Rattle.tx_verdict.specs.Facts.{IsDistinct}
 
 -- operations that put each value once

@@ -1,8 +1,8 @@
 -- Timestamps of a history that is the recording's explain the recording.
-use Rattle.std.proofs.Common.{◌≡◌, ◌⊎◌, ◌≢◌, ℕ, ◌+◌, ◌-◌, ◌<◌, ◌≤◌, ◌==◌, Bool, true, false, cond, List, [], ◌∷◌, ◌++◌, length, take, Contains, arith, inl, inr, refl, sym, ap, ◌∙◌, subst, zero, suc, IsTrue, get_or, eq-eqb}
+use Rattle.std.proofs.Common.{◌≡◌, ◌⊎◌, ◌≢◌, ℕ, ◌+◌, ◌<◌, ◌≤◌, Bool, List, [], ◌∷◌, length, take, Contains, arith, inl, inr, refl, sym, ap, ◌∙◌, subst, zero, suc, IsTrue, eq-eqb}
 use Rattle.std.proofs.lemmas.Bool.{cases_eq, cases_lt, cond-true, cond-false, ne_eqb, false≢true}
-use Rattle.std.proofs.lemmas.List.{get_or_past, get_or-take, length-take, length_push}
-use Rattle.tx_recording.specs.declared.recording.RecordedOutcome.TheVariants.{Ok, Fail}
+use Rattle.std.proofs.lemmas.List.{get_or_past, get_or-take, length-take}
+use Rattle.tx_recording.specs.declared.recording.RecordedOutcome.TheVariants.{Ok}
 use Rattle.tx_recording.specs.declared.recording.Act.TheVariants.{Append, Read}
 use Rattle.tx_recording.specs.declared.recording.RecordedOp.{RecordedOp}
 use Rattle.tx_recording.specs.declared.recording.Span.{Span}
@@ -10,10 +10,10 @@ use Rattle.tx_recording.specs.declared.recording.Orders.{Orders}
 use Rattle.tx_recording.specs.declared.recording.RecordedTransaction.{RecordedTransaction}
 use Rattle.tx_recording.specs.declared.recording.Recording.{Recording}
 use Rattle.tx_recording.specs.Recordings.{txns_of, transaction_at, ops_of, list_of, no_op, no_transaction}
-use Rattle.tx_recording.specs.Explanations.{after, op_at, IsPut, PutsIn, Explanation, IsWriter, IsNewest, Sees, Explains, Precedes}
+use Rattle.tx_recording.specs.Explanations.{after, op_at, PutsIn, Explanation, IsWriter, Sees, Explains, Precedes}
 use Rattle.tx_recording.proofs.Puts.{ends}
 use Rattle.tx_views.specs.declared.view.RecordedView.{RecordedView}
-use Rattle.tx_views.specs.Views.{AreViews, IsAnswered}
+use Rattle.tx_views.specs.Views.{AreViews}
 use Rattle.tx_clock.proofs.ClockOrder.{is_one}
 use Rattle.tx_history.specs.Histories.{History, HasVersion, IsAssignment}
 use Rattle.tx_verdict.specs.Fits.{IsFit, last_by, explanation_of}

@@ -1,5 +1,5 @@
 -- Who commit right behind their starts, of which a table has one transaction each, do not overlap.
-use Rattle.std.proofs.Common.{◌≡◌, ◌≢◌, ℕ, ◌+◌, ◌<◌, ◌≤◌, Bool, List, arith, inl, inr, sym, ap, ◌∙◌, slice_index}
+use Rattle.std.proofs.Common.{ℕ, Bool, List, arith, inl, inr, sym, ap, ◌∙◌, slice_index}
 use Rattle.std.proofs.lemmas.Bool.{cases_eq, cases_lt}
 use Rattle.tx_verdict.specs.Fits.{AreInTurn, CommitAtOnce}
 

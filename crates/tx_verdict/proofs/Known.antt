@@ -1,11 +1,11 @@
 -- An order that is settled holds under each explanation, and where all are settled the last round
 -- refutes each.
-use Rattle.std.proofs.Common.{◌≡◌, ◌⊎◌, ℕ, ◌+◌, ◌<◌, ◌≤◌, List, [], ◌∷◌, ◌++◌, length, Contains, arith, inl, inr, refl, sym, ap, subst, zero, suc, IsTrue, Option, Some, None, slice_get, slice_index}
+use Rattle.std.proofs.Common.{◌≡◌, ℕ, ◌+◌, ◌<◌, ◌≤◌, List, [], ◌∷◌, ◌++◌, Contains, arith, inl, inr, refl, sym, subst, zero, suc, IsTrue, Option, Some, None, slice_get, slice_index}
 use Rattle.std.proofs.lemmas.Bool.{cases_lt}
 use Rattle.std.proofs.lemmas.Option.{slice_get_within, get_or_from_slice_get}
 use Rattle.std.proofs.lemmas.List.Elements.{Contains-push_cases}
 use Rattle.tx_recording.specs.declared.recording.Recording.{Recording}
-use Rattle.tx_recording.specs.Explanations.{Explanation, IsWriter, IsNewest, Explains}
+use Rattle.tx_recording.specs.Explanations.{Explanation, IsWriter, Explains}
 use Rattle.tx_views.specs.declared.owner.Owner.{Owner}
 use Rattle.tx_views.specs.Owners.{AreOwners}
 use Rattle.tx_clock.proofs.ClockOrder.{is_one}
@@ -19,7 +19,7 @@ use Rattle.tx_verdict.specs.declared.refutation.Settled.{Settled}
 use Rattle.tx_verdict.specs.declared.refutation.Hint.{Hint}
 use Rattle.tx_verdict.specs.declared.refutation.Lemma.{Lemma}
 use Rattle.tx_verdict.specs.declared.refutation.Refutation.{Refutation}
-use Rattle.tx_verdict.specs.Reasons.{SawOf, HasWritten, IsNext}
+use Rattle.tx_verdict.specs.Reasons.{SawOf, IsNext}
 use Rattle.tx_verdict.specs.Refutations.{IsOrder, opposite, IsTrain, IsOrdered, IsByOrder, IsStepBy, IsRoundBy, IsSettledBy, IsUnit, ClosesBy, IsClauseBy, AreLemmasBy, IsRefutationBy, IsRefutation}
 use Rattle.tx_verdict.specs.Questions.{IsSerial}
 use Rattle.tx_verdict.specs.Verdicts.{IsRefused}

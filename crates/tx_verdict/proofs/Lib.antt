@@ -11,6 +11,7 @@ pub mod Chains
 pub mod Trains
 pub mod InTurn
 pub mod Small
+pub mod ListKeys
 pub mod Whole
 pub mod Prefixes
 pub mod Torn

@@ -1,23 +1,22 @@
--- Where nothing is written in place of what was there, what is seen earlier begins what is seen
--- later.
-use Rattle.std.proofs.Common.{◌≡◌, ◌⊎◌, ◌≢◌, ℕ, ◌+◌, ◌-◌, ◌<◌, ◌≤◌, List, [], ◌∷◌, ◌++◌, length, get_or, Contains, arith, inl, inr, refl, sym, ap, ◌∙◌, subst, zero, suc, IsTrue}
+-- Of a key that holds a list, what is seen earlier begins what is seen later.
+use Rattle.std.proofs.Common.{◌≡◌, ℕ, ◌+◌, ◌-◌, ◌<◌, ◌≤◌, List, [], ◌∷◌, ◌++◌, length, drop, get_or, Contains, arith, inl, inr, refl, sym, ap, ◌∙◌, zero, suc}
 use Rattle.std.proofs.lemmas.Bool.{cases_eq, cases_lt}
-use Rattle.std.proofs.lemmas.List.{get_or_append_left, append_assoc, append-nil, get_or_default}
-use Rattle.std.proofs.lemmas.List.Elements.{Contains-get_or, Contains-append_right}
+use Rattle.std.proofs.lemmas.List.{get_or_append_left, append_assoc, append-nil, length-take, length-drop, get_or-take, get_or-drop}
+use Rattle.std.proofs.lemmas.List.Elements.{Contains-append_right}
 use Rattle.tx_recording.specs.declared.recording.Act.{Act}
 use Rattle.tx_recording.specs.declared.recording.Act.TheVariants.{Append, Write, Read}
 use Rattle.tx_recording.specs.declared.recording.RecordedOp.{RecordedOp}
 use Rattle.tx_recording.specs.declared.recording.Orders.{Orders}
 use Rattle.tx_recording.specs.declared.recording.Recording.{Recording}
-use Rattle.tx_recording.specs.Recordings.{ops_of, no_op}
-use Rattle.tx_recording.specs.Explanations.{act_on, after, op_at, Explanation, IsWriter, IsNewest, Sees, Explains}
+use Rattle.tx_recording.specs.Recordings.{ops_of, transaction_at}
+use Rattle.tx_recording.specs.Explanations.{act_on, after, Explanation, IsWriter, Sees, Explains}
 use Rattle.tx_recording.proofs.Puts.{after_same, after_other}
 use Rattle.tx_recording.proofs.Seen.{sees_unique}
-use Rattle.tx_verdict.specs.Facts.{AreLists}
+use Rattle.tx_verdict.specs.Facts.{HoldsList}
 
--- operations that write nothing in place of what there is
-abbrev Append_only : List RecordedOp → Type 0
-Append_only os = (o : RecordedOp) → Contains os o → (v : ℕ) → o.act ≡ Write v → ⊥
+-- operations that write nothing in place of what the key holds
+abbrev Append_only : List RecordedOp → ℕ → Type 0
+Append_only os k = (o : RecordedOp) → Contains os o → o.key ≡ k → (v : ℕ) → o.act ≡ Write v → ⊥
 
 -- they leave what there was, and more behind it
 abbrev AddsTo : List RecordedOp → ℕ → Type 0
@@ -37,21 +36,31 @@ head_adds o os k (Read s) is at none (ys, adds) = (
   λ xs. after_same o os k xs at ∙ ap (λ b. after os k (act_on b xs)) is ∙ adds xs,
 )
 
-adds_to : (os : List RecordedOp) (k : ℕ) → Append_only os → AddsTo os k
+adds_to : (os : List RecordedOp) (k : ℕ) → Append_only os k → AddsTo os k
 adds_to [] k only = ([], λ xs. sym (append-nil xs))
 adds_to (o ∷ os) k only =
     let rest = adds_to os k (λ q c. only q (Contains-append_right (o ∷ []) os q c)) in
     elim (cases_eq o.key k) [
-      | inl same ↦ head_adds o os k o.act refl same (only o (0, omega arith, refl)) rest
+      | inl same ↦ head_adds o os k o.act refl same (only o (0, omega arith, refl) same) rest
       | inr other ↦ (rest.0, λ xs. after_other o os k xs other ∙ rest.1 xs)
     ]
 
-pub only_of : (r : Recording) → AreLists r → (t : ℕ) → Append_only (ops_of r t)
-only_of r lists t o (i, lt, is) v at =
-    let same : op_at r t i ≡ o = get_or_default (ops_of r t) i no_op o lt ∙ is in
-    lists t i v (ap (λ (q : RecordedOp). q.act) same ∙ at)
+-- an operation of a transaction is one of the recording
+of_recording : (r : Recording) (t : ℕ) (o : RecordedOp) → Contains (ops_of r t) o → Contains r.ops.items o
+of_recording r t o (i, lt, is) =
+    let first = (transaction_at r t).first in
+    let upto = (transaction_at r t).upto in
+    let n = length-take (upto - first) (drop first r.ops.items) in
+    let m = length-drop first r.ops.items in
+    let at : get_or (ops_of r t) i o ≡ get_or r.ops.items (first + i) o =
+    get_or-take (upto - first) (drop first r.ops.items) i o (omega (arith, lt, n))
+    ∙ get_or-drop first r.ops.items i o in
+    (first + i, omega (arith, lt, n, m), sym at ∙ is)
 
-module _ (r : Recording) (orders : Orders) (x : Explanation) (e : Explains r orders x) (lists : AreLists r) where
+only_of : (r : Recording) (k : ℕ) → HoldsList r k → (t : ℕ) → Append_only (ops_of r t) k
+only_of r k list t o there of_key v at = list (o, of_recording r t o there, of_key, (v, at))
+
+module _ (r : Recording) (orders : Orders) (x : Explanation) (e : Explains r orders x) where
   -- what is seen of a key until its next writer commits
   held : (k a u : ℕ) (xs : List ℕ) → IsWriter r x u k → x.start u < a → a < x.commit u → Sees r x k (x.start u) xs
       → Sees r x k a xs
@@ -87,18 +96,19 @@ module _ (r : Recording) (orders : Orders) (x : Explanation) (e : Explains r ord
         is,
       )
 
-  pub begins_below : (n k a b : ℕ) (xs ys : List ℕ) → b < n → a ≤ b → Sees r x k a xs → Sees r x k b ys
+  begins_below : (n k : ℕ) → HoldsList r k → (a b : ℕ) (xs ys : List ℕ) → b < n → a ≤ b → Sees r x k a xs
+      → Sees r x k b ys
       → (zs : List ℕ) × (ys ≡ xs ++ zs)
-  begins_below zero k a b xs ys lt le one other = absurd (omega (arith, lt))
-  begins_below (suc n) k a b xs ys lt le (inl (u, newest, is)) (inr (none, empty)) =
+  begins_below zero k list a b xs ys lt le one other = absurd (omega (arith, lt))
+  begins_below (suc n) k list a b xs ys lt le (inl (u, newest, is)) (inr (none, empty)) =
       absurd (let gt = none u newest.0 in let upto = newest.1 in omega (arith, gt, upto, le))
-  begins_below (suc n) k a b xs ys lt le (inr (also, nothing)) (inr (none, empty)) =
+  begins_below (suc n) k list a b xs ys lt le (inr (also, nothing)) (inr (none, empty)) =
       ([], empty ∙ sym nothing ∙ sym (append-nil xs))
-  begins_below (suc n) k a b xs ys lt le one (inl (u, newest, is)) =
+  begins_below (suc n) k list a b xs ys lt le one (inl (u, newest, is)) =
       let upto = newest.1 in
       let above = e.above u newest.0.0 in
       let (base, sees, left) = e.leaves k u newest.0 in
-      let (more, adds) = adds_to (ops_of r u) k (only_of r lists u) in
+      let (more, adds) = adds_to (ops_of r u) k (only_of r k list u) in
       let whole : ys ≡ base ++ more = is ∙ left ∙ adds base in
       elim (cases_lt a (x.commit u)) [
         | inr late ↦ (
@@ -112,7 +122,7 @@ module _ (r : Recording) (orders : Orders) (x : Explanation) (e : Explains r ord
               (more, whole ∙ ap (λ q. q ++ more) (sees_unique r orders x e k a base xs now one))
               )
           | inr before ↦ (
-              let (zs, parts) = begins_below n k a (x.start u) xs base (omega (arith, lt, upto, above)) before one
+              let (zs, parts) = begins_below n k list a (x.start u) xs base (omega (arith, lt, upto, above)) before one
               sees in
               (zs ++ more, whole ∙ ap (λ q. q ++ more) parts ∙ append_assoc xs zs more)
               )
@@ -120,15 +130,15 @@ module _ (r : Recording) (orders : Orders) (x : Explanation) (e : Explains r ord
       ]
 
   -- two that are seen of one key have the same where both have something
-  pub agree : (k a b i : ℕ) (xs ys : List ℕ) → Sees r x k a xs → Sees r x k b ys → i < length xs → i < length ys
+  pub agree : (k : ℕ) → HoldsList r k → (a b i : ℕ) (xs ys : List ℕ) → Sees r x k a xs → Sees r x k b ys → i < length xs → i < length ys
       → get_or xs i 0 ≡ get_or ys i 0
-  agree k a b i xs ys one other lt also = elim (cases_lt b a) [
+  agree k list a b i xs ys one other lt also = elim (cases_lt b a) [
     | inl later ↦ (
-        let (zs, parts) = begins_below (a + 1) k b a ys xs (omega arith) (omega (arith, later)) other one in
+        let (zs, parts) = begins_below (a + 1) k list b a ys xs (omega arith) (omega (arith, later)) other one in
         ap (λ q. get_or q i 0) parts ∙ get_or_append_left ys zs 0 i also
         )
     | inr upto ↦ (
-        let (zs, parts) = begins_below (b + 1) k a b xs ys (omega arith) upto one other in
+        let (zs, parts) = begins_below (b + 1) k list a b xs ys (omega arith) upto one other in
         sym (ap (λ q. get_or q i 0) parts ∙ get_or_append_left xs zs 0 i lt)
         )
   ]

@@ -1,15 +1,14 @@
 -- What nothing explains.
-use Rattle.std.proofs.Common.{◌≡◌, ◌⊎◌, ◌≢◌, ℕ, ◌+◌, ◌-◌, ◌<◌, ◌≤◌, List, [], ◌∷◌, ◌++◌, length, take, drop, get_or, Contains, arith, inl, inr, refl, sym, ap, ◌∙◌, subst, true, false, IsTrue, Option, Some, None}
-use Rattle.std.proofs.lemmas.Bool.{cases_Bool, false≢true}
-use Rattle.std.proofs.lemmas.List.{append_assoc}
+use Rattle.std.proofs.Common.{◌≡◌, ℕ, ◌<◌, ◌≤◌, List, length, get_or, Contains, arith, inl, inr, refl, sym, ap, ◌∙◌, subst, false, IsTrue, Option, Some, None}
+use Rattle.std.proofs.lemmas.Bool.{false≢true}
 use Rattle.std.proofs.lemmas.List.Elements.{Contains-get_or}
 use Rattle.tx_recording.specs.declared.recording.RecordedOutcome.TheVariants.{Fail as Failed}
 use Rattle.tx_recording.specs.declared.recording.Orders.{Orders}
 use Rattle.tx_recording.specs.declared.recording.Recording.{Recording}
 use Rattle.tx_recording.specs.Recordings.{list_of, transaction_at, ops_of}
-use Rattle.tx_recording.specs.Explanations.{op_at, after, IsPut, ArePutOnce, PutsIn, Explanation, IsWriter, IsNewest, Sees, Explains}
+use Rattle.tx_recording.specs.Explanations.{op_at, IsPut, ArePutOnce, PutsIn, Explanation, IsWriter, Sees, Explains}
 use Rattle.tx_recording.proofs.Puts.{IsLast, last_unique, none_last}
-use Rattle.tx_recording.proofs.Seen.{seen_put, seen_last, sees_unique, writer_last}
+use Rattle.tx_recording.proofs.Seen.{seen_put, sees_unique, writer_last}
 use Rattle.tx_views.specs.declared.owner.Owner.{Owner}
 use Rattle.tx_views.specs.declared.view.RecordedView.{RecordedView}
 use Rattle.tx_views.specs.Owners.{AreOwners, owner_at}

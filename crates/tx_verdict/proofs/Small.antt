@@ -1,22 +1,19 @@
 -- Small steps of the functions.
-use Rattle.std.proofs.Common.{◌≡◌, ◌⊎◌, ◌≢◌, ℕ, ◌+◌, ◌-◌, ◌<◌, ◌≤◌, Bool, true, false, List, [], ◌∷◌, ◌++◌, length, take, drop, get_or, Contains, arith, inl, inr, refl, sym, ap, ◌∙◌, subst, IsTrue, Option, Some, None, slice_index, Result, Ok, Err, IfOk}
-use Rattle.std.proofs.lemmas.Bool.{cases_Bool, cases_eq, cases_lt}
-use Rattle.std.proofs.lemmas.List.{get_or_read, get_or_default, get_or_past, length-take, length-drop, get_or-take, get_or-drop}
+use Rattle.std.proofs.Common.{◌≡◌, ◌⊎◌, ℕ, ◌<◌, Bool, true, false, List, length, drop, get_or, Contains, inl, inr, sym, ap, ◌∙◌, subst, IsTrue, Result, Ok, Err, IfOk}
+use Rattle.std.proofs.lemmas.Bool.{cases_Bool}
+use Rattle.std.proofs.lemmas.List.{get_or_read, get_or_default}
 use Rattle.std.proofs.lemmas.List.Elements.{Contains-get_or}
-use Rattle.tx_recording.specs.declared.recording.Act.TheVariants.{Append, Write}
 use Rattle.tx_recording.specs.declared.recording.RecordedOutcome.{RecordedOutcome}
 use Rattle.tx_recording.specs.declared.recording.Span.{Span}
 use Rattle.tx_recording.specs.declared.recording.RecordedOp.{RecordedOp}
 use Rattle.tx_recording.specs.declared.recording.RecordedTransaction.{RecordedTransaction}
 use Rattle.tx_recording.specs.declared.recording.Recording.{Recording}
-use Rattle.tx_recording.specs.Recordings.{txns_of, transaction_at, no_transaction, no_op, ops_of}
+use Rattle.tx_recording.specs.Recordings.{txns_of, transaction_at, no_transaction, no_op}
 use Rattle.tx_recording.specs.Explanations.{Puts, PutsIn}
 use Rattle.tx_views.specs.declared.effect.Effect.{Effect}
-use Rattle.tx_views.specs.declared.view.RecordedView.{RecordedView}
 use Rattle.tx_views.specs.Views.{left_by}
 use Rattle.tx_verdict.specs.declared.versions.Versions.{Versions}
 use Rattle.tx_verdict.specs.Versions.{text_in, live_of, IsPlaced}
-use Rattle.tx_verdict.specs.Facts.{AreLists}
 use Rattle.tx_verdict.proofs.Texts.{left_cleared, left_first}
 
 pub puts_at : (ops : List RecordedOp) (i k v : ℕ) → i < length ops → (get_or ops i no_op).key ≡ k
@@ -64,24 +61,3 @@ pub if_fits : {E : Type 0} (P Q : Type 0) (q : Result Bool E) → (P → Q) → 
     → IfOk q (λ b. IsTrue b → Q)
 if_fits P Q (Ok b) f h = λ is. f (h is)
 if_fits P Q (Err e) f h = h
-
-same_act : (v : ℕ) → Append 0 ≡ Write v → ⊥
-same_act v e = (cc)
-
--- where no operation of the recording writes, none of a transaction does
-pub lists_of : (r : Recording) → ((i v : ℕ) → i < length r.ops.items → (get_or r.ops.items i no_op).act ≡ Write v → ⊥)
-    → AreLists r
-lists_of r none t p v is = elim (cases_lt p (length (ops_of r t))) [
-  | inr past ↦ same_act v (sym (ap (λ (o : RecordedOp). o.act) (get_or_past (ops_of r t) p no_op past)) ∙ is)
-  | inl lt ↦ (
-      let first = (transaction_at r t).first in
-      let upto = (transaction_at r t).upto in
-      let n = length-take (upto - first) (drop first r.ops.items) in
-      let m = length-drop first r.ops.items in
-      let a : p < upto - first = omega (arith, lt, n) in
-      let b : first + p < length r.ops.items = omega (arith, lt, n, m) in
-      let at : get_or (ops_of r t) p no_op ≡ get_or r.ops.items (first + p) no_op =
-      get_or-take (upto - first) (drop first r.ops.items) p no_op a ∙ get_or-drop first r.ops.items p no_op in
-      none (first + p) v b (sym (ap (λ (o : RecordedOp). o.act) at) ∙ is)
-      )
-]

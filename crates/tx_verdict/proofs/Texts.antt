@@ -1,5 +1,5 @@
 -- What a version holds, by what its writer put.
-use Rattle.std.proofs.Common.{◌≡◌, ◌⊎◌, ℕ, ◌+◌, ◌-◌, ◌<◌, ◌≤◌, cond, List, [], ◌∷◌, ◌++◌, length, take, drop, arith, refl, sym, ap, ◌∙◌, subst, true, false}
+use Rattle.std.proofs.Common.{◌≡◌, ℕ, ◌+◌, ◌-◌, ◌≤◌, List, [], ◌++◌, take, drop, arith, sym, ap, ◌∙◌, true, false}
 use Rattle.std.proofs.lemmas.List.{take-append-drop, take-take}
 use Rattle.tx_recording.specs.declared.recording.Span.{Span}
 use Rattle.tx_views.specs.declared.effect.Effect.{Effect}

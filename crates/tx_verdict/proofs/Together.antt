@@ -1,5 +1,5 @@
 -- All that was looked at together.
-use Rattle.std.proofs.Common.{◌≡◌, ◌⊎◌, ℕ, ◌+◌, ◌-◌, ◌*◌, ◌<◌, ◌≤◌, Bool, true, false, List, length, Contains, arith, inl, inr, refl, sym, ap, ◌∙◌, subst, IsTrue, Option, slice_index, slice_index_or}
+use Rattle.std.proofs.Common.{◌≡◌, ℕ, ◌+◌, ◌-◌, ◌<◌, ◌≤◌, Bool, false, List, Contains, arith, inl, inr, refl, sym, ap, ◌∙◌, subst, IsTrue, slice_index, slice_index_or}
 use Rattle.std.proofs.lemmas.Bool.{cases_lt, false≢true}
 use Rattle.std.proofs.lemmas.List.{get_or_past}
 use Rattle.tx_recording.specs.declared.recording.RecordedOutcome.TheVariants.{Ok as Committed, Fail as Failed}
@@ -10,7 +10,7 @@ use Rattle.tx_recording.specs.Explanations.{after, IsPut, Precedes}
 use Rattle.tx_views.specs.declared.view.RecordedView.{RecordedView}
 use Rattle.tx_views.specs.Views.{AreViews}
 use Rattle.tx_history.specs.declared.recorded.Read.{Read}
-use Rattle.tx_history.specs.Histories.{History, HasVersion, IsAssignment}
+use Rattle.tx_history.specs.Histories.{IsAssignment}
 use Rattle.tx_history.specs.Records.{history_of, writers_of}
 use Rattle.tx_verdict.specs.declared.question.Level.TheVariants.{Serializable}
 use Rattle.tx_verdict.specs.declared.question.Question.{Question}

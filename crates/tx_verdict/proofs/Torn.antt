@@ -13,7 +13,7 @@ use Rattle.tx_views.specs.Views.{Saw, IsViewOf, IsEffect, left_by}
 use Rattle.tx_views.proofs.ReadViews.{appended, cleared}
 use Rattle.tx_views.proofs.ValueOwners.{put_once}
 use Rattle.tx_verdict.specs.declared.verdict.Rule.TheVariants.{G1b, Duplicate, IncompatibleOrder}
-use Rattle.tx_verdict.specs.Facts.{IsTorn, IsTornBy, IsDistinct, AreLists}
+use Rattle.tx_verdict.specs.Facts.{IsTorn, IsTornBy, IsDistinct, HoldsList}
 use Rattle.tx_verdict.specs.Verdicts.{IsWrong}
 use Rattle.tx_verdict.proofs.Distinct.{after_distinct, none_distinct, seen_distinct}
 use Rattle.tx_verdict.proofs.Reasons.{once_each}
@@ -123,7 +123,7 @@ fact_twice r table owners v view list is i j lt within same =
           omega (arith, at, lt)),
     )
 
-pub fact_orders : (r : Recording) → AreLists r → (v w : RecordedView) → IsViewOf r v → IsViewOf r w → v.key ≡ w.key
+pub fact_orders : (r : Recording) (v w : RecordedView) → HoldsList r v.key → IsViewOf r v → IsViewOf r w → v.key ≡ w.key
     → (xs ys : List ℕ)
     → xs ≡ list_of r v.span → ys ≡ list_of r w.span → (i : ℕ) → i < length xs → i < length ys
     → (get_or xs i 0 ≡ get_or ys i 0 → ⊥)
@@ -134,7 +134,7 @@ pub fact_orders : (r : Recording) → AreLists r → (v w : RecordedView) → Is
       value = Some (get_or xs i 0);
       by = Some w.txn;
     }
-fact_orders r lists v w a b same_key xs ys xs_are ys_are i lt also ne =
+fact_orders r v w holds a b same_key xs ys xs_are ys_are i lt also ne =
     let P : List ℕ → Type 0 = λ q. Saw r v.txn v.key q in
     let P' : List ℕ → Type 0 = λ q. Saw r w.txn w.key q in
     let R : ℕ → Type 0 = λ k. Saw r w.txn k ys in (
@@ -155,5 +155,5 @@ fact_orders r lists v w a b same_key xs ys xs_are ys_are i lt also ne =
           let S : ℕ → Type 0 = λ k. Sees r x k (x.start w.txn) ys in
           let one = subst Q (sym xs_are) (view_sees r orders x e v a) in
           let other = subst S (sym same_key) (subst Q' (sym ys_are) (view_sees r orders x e w b)) in
-          ne (agree r orders x e lists v.key (x.start v.txn) (x.start w.txn) i xs ys one other lt also)),
+          ne (agree r orders x e v.key holds (x.start v.txn) (x.start w.txn) i xs ys one other lt also)),
     )

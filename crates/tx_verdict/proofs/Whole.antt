@@ -1,14 +1,14 @@
 -- What a writer left of a key is there as a whole in all that is seen later.
-use Rattle.std.proofs.Common.{◌≡◌, ◌⊎◌, ◌≢◌, ℕ, ◌+◌, ◌-◌, ◌<◌, ◌≤◌, Bool, true, false, List, [], ◌∷◌, ◌++◌, length, take, drop, get_or, Contains, arith, inl, inr, refl, sym, ap, ◌∙◌, subst, zero, suc, IsTrue}
-use Rattle.std.proofs.lemmas.Bool.{cases_eq, cases_lt, cases_Bool}
+use Rattle.std.proofs.Common.{◌≡◌, ℕ, ◌+◌, ◌-◌, ◌<◌, ◌≤◌, List, [], ◌++◌, length, get_or, Contains, arith, inl, inr, refl, sym, ap, ◌∙◌, subst, zero, suc, IsTrue}
+use Rattle.std.proofs.lemmas.Bool.{cases_eq, cases_lt}
 use Rattle.std.proofs.lemmas.List.{get_or_append_left, get_or-append_right, length-append, append_assoc, append-nil}
 use Rattle.std.proofs.lemmas.List.Elements.{Contains-get_or}
 use Rattle.tx_recording.specs.declared.recording.Orders.{Orders}
 use Rattle.tx_recording.specs.declared.recording.Recording.{Recording}
 use Rattle.tx_recording.specs.Recordings.{ops_of}
-use Rattle.tx_recording.specs.Explanations.{after, PutsIn, IsPut, ArePutOnce, Explanation, IsWriter, Sees, Explains}
+use Rattle.tx_recording.specs.Explanations.{after, PutsIn, IsPut, ArePutOnce, Explanation, Sees, Explains}
 use Rattle.tx_recording.proofs.Seen.{seen_put}
-use Rattle.tx_verdict.proofs.Blocks.{Splits, splits}
+use Rattle.tx_verdict.proofs.Blocks.{splits}
 
 module _ (r : Recording) (orders : Orders) (x : Explanation) (e : Explains r orders x) (once : ArePutOnce r)
     (k w y m : ℕ) (put : IsPut r w m y) where

@@ -1,7 +1,8 @@
 -- What a fact says of a recording.
-use Rattle.std.specs.Prelude.{◌≡◌, ◌≢◌, ℕ, ◌<◌, ◌≤◌, List, ◌++◌, length, Contains, Option, Some, None, slice_index}
+use Rattle.std.specs.Prelude.{◌≡◌, ◌≢◌, ℕ, ◌<◌, ◌≤◌, Bool, true, false, IsTrue, List, ◌++◌, length, Contains, Option, Some, None, slice_index, slice_index_or}
 use Rattle.tx_recording.specs.declared.recording.Act.TheVariants.{Write}
 use Rattle.tx_recording.specs.declared.recording.RecordedOutcome.TheVariants.{Fail}
+use Rattle.tx_recording.specs.declared.recording.RecordedOp.{RecordedOp}
 use Rattle.tx_recording.specs.declared.recording.Recording.{Recording}
 use Rattle.tx_recording.specs.Recordings.{transaction_at, ops_of}
 use Rattle.tx_recording.specs.Explanations.{after, op_at, IsPut}
@@ -47,9 +48,19 @@ IsRule r _ t k _ _ = ⊥
 abbrev pub IsFact : Recording → Fact → Type 0
 IsFact r f = IsRule r f.rule f.txn f.key f.value f.by
 
--- nothing is written in place of what was there
-abbrev pub AreLists : Recording → Type 0
-AreLists r = (t p v : ℕ) → (op_at r t p).act ≡ Write v → ⊥
+-- the key is a register: an operation writes into it in place of what was there
+abbrev pub IsWritten : Recording → ℕ → Type 0
+IsWritten r k = (o : RecordedOp) × Contains r.ops.items o × (o.key ≡ k) × ((v : ℕ) × (o.act ≡ Write v))
+
+-- the key holds a list: no operation does
+abbrev pub HoldsList : Recording → ℕ → Type 0
+HoldsList r k = IsWritten r k → ⊥
+
+-- by key, whether it holds a list
+pub record AreLists (r : Recording) (lists : List Bool) : Type 0 where
+  pub keys : length lists ≡ r.keys
+  pub holds : (k : ℕ) → IsTrue (slice_index_or lists k false) → HoldsList r k
+  pub others : (k : ℕ) → k < r.keys → slice_index_or lists k true ≡ false → IsWritten r k
 
 -- each value is at one place
 abbrev pub IsDistinct : List ℕ → Type 0

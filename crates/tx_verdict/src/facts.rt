@@ -206,12 +206,10 @@ pub fn wrong_update(case: &Case<'_>, lost: LostUpdate) -> Option<Fact>
     if !is_same(case.recording, one, other) {
         return None;
     }
-    let first_puts = is_update(case.recording, one);
-    if !first_puts {
+    if !is_update(case.recording, one) {
         return None;
     }
-    let second_puts = is_update(case.recording, other);
-    if !second_puts {
+    if !is_update(case.recording, other) {
         return None;
     }
     Some(Fact {

@@ -34,7 +34,7 @@ pub use evidence::{cycle_of, timestamps};
 pub use facts::{internal, wrong_update, wrong_views};
 pub use fit::value_of;
 pub use ground::{Behind, Ground};
-pub use lists::{are_lists, wrong_lists};
+pub use lists::{holds_list, list_keys, wrong_lists};
 pub use open_order::is_undecided;
 pub use question::{Level, Question};
 pub use refutation::{Hint, Lemma, Refutation, Settled, WriteOrder, is_refutation};

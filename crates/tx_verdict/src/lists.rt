@@ -1,11 +1,10 @@
-//! What is wrong with the lists that were seen, where nothing is written in place of what was
-//! there.
-ghost use Rattle.std.specs.Prelude.{◌≡◌, ◌≢◌, ◌<◌, length, IfOk, IfSome, IsTrue, slice_index};
-ghost use Rattle.tx_recording.specs.Recordings.{list_of};
+//! Which keys hold lists, and what is wrong with the lists that were seen.
+ghost use Rattle.std.specs.Prelude.{◌≡◌, ◌≢◌, ◌<◌, false, length, IfOk, IfSome, slice_index, slice_index_or};
+ghost use Rattle.tx_recording.specs.Recordings.{IsRecording, list_of};
 ghost use Rattle.tx_views.specs.declared.view.RecordedView.{RecordedView};
 ghost use Rattle.tx_views.specs.Views.{IsViewOf};
 ghost use Rattle.tx_verdict.specs.Cases.{IsCase};
-ghost use Rattle.tx_verdict.specs.Facts.{AreLists};
+ghost use Rattle.tx_verdict.specs.Facts.{AreLists, HoldsList};
 ghost use Rattle.tx_verdict.specs.Verdicts.{IsWrong};
 
 use crate::block::wrong_block;
@@ -17,17 +16,32 @@ use std::alloc::{AllocError, Global};
 use tx_recording::{Act, Recording};
 use tx_views::{Owner, RecordedView};
 
-/// Whether nothing is written in place of what was there: all keys hold lists.
-pub fn are_lists(recording: &Recording) -> bool
-    ensures { IsTrue result → AreLists recording.now }
+/// By key, whether it holds a list: nothing is written in place of what was there.
+///
+/// `AllocError` where there was no room.
+pub fn list_keys(alloc: Global, recording: &Recording) -> Result<Vec<bool>, AllocError>
+    requires { IsRecording recording.now }
+    ensures { IfOk result (λ lists. AreLists recording.now lists.items) }
 {
+    let mut lists = vec![in alloc; true; recording.keys as usize]?;
     for i in 0..recording.ops.len() {
-        match recording.ops[i].act {
-            Act::Write(_) => return false,
+        let op = recording.ops[i];
+        match op.act {
+            Act::Write(_) => lists[op.key as usize] = false,
             Act::Append(_) | Act::Read(_) => {}
         }
     }
-    true
+    Ok(lists)
+}
+
+/// Whether a key holds a list, by a table of that.
+pub fn holds_list(lists: &[bool], key: u32) -> bool
+    ensures { result ≡ slice_index_or lists.now key false }
+{
+    match lists.get(key as usize) {
+        Some(holds) => *holds,
+        None => false,
+    }
 }
 
 // The first place at which both lists have a value, and not the same.
@@ -45,7 +59,7 @@ fn first_difference(one: &[u32], other: &[u32]) -> Option<usize>
 
 // What is wrong with a list beside another one of the same key: neither begins with the other.
 fn wrong_order(recording: &Recording, view: RecordedView, other: RecordedView) -> Option<Fact>
-    requires lists { AreLists recording.now }
+    requires list { HoldsList recording.now view.key }
     requires view { IsViewOf recording.now view }
     requires other { IsViewOf recording.now other }
     ensures { IfSome result (IsWrong recording.now) }
@@ -65,12 +79,15 @@ fn wrong_order(recording: &Recording, view: RecordedView, other: RecordedView) -
 }
 
 // What is wrong with a list beside the longest of its key.
-fn wrong_orders(case: &Case<'_>, longest: &[Option<u32>]) -> Option<Fact>
+fn wrong_orders(case: &Case<'_>, lists: &[bool], longest: &[Option<u32>]) -> Option<Fact>
     requires case { IsCase case.now }
-    requires lists { AreLists case.now.recording.now }
+    requires lists { AreLists case.now.recording.now lists.now }
     ensures { IfSome result (IsWrong case.now.recording.now) }
 {
     for i in 0..case.views.len() {
+        if !holds_list(lists, case.views[i].key) {
+            continue;
+        }
         let Some(other) = view_before(case.views, longest, case.views[i].key) else {
             continue;
         };
@@ -194,19 +211,21 @@ fn wrong_longest(
 
 /// What is wrong with the lists that were seen: two of one key, of which neither begins with the
 /// other, a value that is there twice, or some of what one transaction put into the key without the
-/// rest. The table has of each key a view of it, the longest; where it has others, less is found.
+/// rest. `longest` has of each key that holds a list a view of it, the longest; where it has others,
+/// less is found.
 ///
 /// `AllocError` where there was no room.
 pub fn wrong_lists(
     alloc: Global,
     case: &Case<'_>,
+    lists: &[bool],
     longest: &[Option<u32>],
 ) -> Result<Option<Fact>, AllocError>
     requires case { IsCase case.now }
-    requires lists { AreLists case.now.recording.now }
+    requires lists { AreLists case.now.recording.now lists.now }
     ensures { IfOk result (λ found. IfSome found (IsWrong case.now.recording.now)) }
 {
-    let found = wrong_orders(case, longest);
+    let found = wrong_orders(case, lists, longest);
     if found.is_some() {
         return Ok(found);
     }

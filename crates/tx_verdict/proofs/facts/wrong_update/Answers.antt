@@ -16,8 +16,8 @@ returns c =
     (c.requires.case.views one (Contains-get_or views c.args.lost.first no_view c.if-first-case.false))
     (c.requires.case.views other (Contains-get_or views c.args.lost.second no_view c.if-second-case.false))
     c.if-one-other.false c.if-one-other-2.false (c.is_same.ensures c.if-not-is_same.false)
-    (c.is_update-first_puts.ensures c.if-not-first_puts.false)
-    (c.is_update-second_puts.ensures c.if-not-second_puts.false)
+    (c.is_update.ensures c.if-not-is_update.false)
+    (c.is_update-2.ensures c.if-not-is_update-2.false)
 
 pub is_same-requires-clause-one : goal.is_same-requires-clause-one
 is_same-requires-clause-one c =
@@ -29,12 +29,12 @@ is_same-requires-clause-other c =
     c.requires.case.views (get_or c.args.case.now.views.now c.args.lost.second no_view)
     (Contains-get_or c.args.case.now.views.now c.args.lost.second no_view c.if-second-case.false)
 
-pub is_update-first_puts-requires-clause-view : goal.is_update-first_puts-requires-clause-view
-is_update-first_puts-requires-clause-view c =
+pub is_update-requires-clause-view : goal.is_update-requires-clause-view
+is_update-requires-clause-view c =
     c.requires.case.views (get_or c.args.case.now.views.now c.args.lost.first no_view)
     (Contains-get_or c.args.case.now.views.now c.args.lost.first no_view c.if-first-case.false)
 
-pub is_update-second_puts-requires-clause-view : goal.is_update-second_puts-requires-clause-view
-is_update-second_puts-requires-clause-view c =
+pub is_update-requires-2-clause-view : goal.is_update-requires-2-clause-view
+is_update-requires-2-clause-view c =
     c.requires.case.views (get_or c.args.case.now.views.now c.args.lost.second no_view)
     (Contains-get_or c.args.case.now.views.now c.args.lost.second no_view c.if-second-case.false)

@@ -1,5 +1,5 @@
 -- With those so far, the rest follows.
-use Rattle.std.proofs.Common.{ℕ, [], take, drop}
+use Rattle.std.proofs.Common.{[], take, drop}
 use Rattle.tx_verdict.specs.Refutations.{AreLemmasBy}
 use Rattle.tx_verdict.proofs.lemma.are_lemmas.Given as goal
 

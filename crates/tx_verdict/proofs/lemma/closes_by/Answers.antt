@@ -1,10 +1,9 @@
 -- What is left of one more clause; and then the round closes.
-use Rattle.std.proofs.Common.{◌≡◌, ℕ, ◌+◌, ◌<◌, List, [], ◌∷◌, ◌++◌, length, drop, get_or, arith, sym, ap, ◌∙◌, subst}
+use Rattle.std.proofs.Common.{◌+◌, List, drop, get_or, arith, subst}
 use Rattle.std.proofs.lemmas.Grind.{common_steps}
 use Rattle.std.proofs.lemmas.List.{drop_more}
 use Rattle.std.proofs.Math.ListN.{drop_of_length-le}
 use Rattle.tx_verdict.specs.declared.refutation.WriteOrder.{WriteOrder}
-use Rattle.tx_verdict.specs.declared.refutation.Hint.{Hint}
 use Rattle.tx_verdict.specs.Refutations.{ClosesBy, IsUnitOf, no_order}
 use Rattle.tx_verdict.proofs.Direct.{hint_on, hints_end}
 use Rattle.tx_verdict.proofs.lemma.closes_by.Goals as goal

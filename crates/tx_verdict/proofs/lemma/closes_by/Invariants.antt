@@ -1,5 +1,5 @@
 -- With those so far, the rest closes.
-use Rattle.std.proofs.Common.{ℕ, drop}
+use Rattle.std.proofs.Common.{drop}
 use Rattle.tx_verdict.specs.Refutations.{ClosesBy}
 use Rattle.tx_verdict.proofs.lemma.closes_by.Given as goal
 

@@ -1,5 +1,5 @@
 -- The lemma at the place.
-use Rattle.std.proofs.Common.{◌<◌, List, length, get_or, arith, subst}
+use Rattle.std.proofs.Common.{List, get_or, arith, subst}
 use Rattle.std.proofs.lemmas.Grind.{common_steps}
 use Rattle.std.proofs.lemmas.Option.{slice_get-get_or}
 use Rattle.tx_verdict.specs.declared.refutation.WriteOrder.{WriteOrder}

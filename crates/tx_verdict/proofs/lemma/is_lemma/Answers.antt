@@ -1,10 +1,10 @@
 -- One more order of the clause; and then the round closes.
-use Rattle.std.proofs.Common.{◌≡◌, ℕ, ◌+◌, ◌<◌, List, [], ◌∷◌, ◌++◌, length, drop, get_or, arith, refl, sym, ap, ◌∙◌, subst}
+use Rattle.std.proofs.Common.{◌≡◌, ◌+◌, List, [], ◌∷◌, ◌++◌, drop, get_or, arith, ap, ◌∙◌, subst}
 use Rattle.std.proofs.lemmas.Grind.{common_steps}
 use Rattle.std.proofs.lemmas.List.{drop_more}
 use Rattle.std.proofs.Math.ListN.{drop_of_length-le}
 use Rattle.tx_verdict.specs.declared.refutation.WriteOrder.{WriteOrder}
-use Rattle.tx_verdict.specs.Refutations.{opposite, IsClauseBy, IsLemmaBy, no_order}
+use Rattle.tx_verdict.specs.Refutations.{IsClauseBy, IsLemmaBy, no_order}
 use Rattle.tx_verdict.proofs.Direct.{clause_on, clause_ends}
 use Rattle.tx_verdict.proofs.lemma.is_lemma.Goals as goal
 

@@ -1,5 +1,5 @@
 -- With those so far, the rest of the clause follows.
-use Rattle.std.proofs.Common.{ℕ, drop}
+use Rattle.std.proofs.Common.{drop}
 use Rattle.tx_verdict.specs.Refutations.{IsClauseBy, IsLemmaBy}
 use Rattle.tx_verdict.proofs.lemma.is_lemma.Given as goal
 

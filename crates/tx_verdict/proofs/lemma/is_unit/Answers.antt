@@ -1,5 +1,5 @@
 -- One order more.
-use Rattle.std.proofs.Common.{◌≡◌, ◌⊎◌, ℕ, ◌<◌, length, get_or, Contains, arith}
+use Rattle.std.proofs.Common.{◌≡◌, ◌⊎◌, get_or, Contains, arith}
 use Rattle.std.proofs.lemmas.Grind.{common_steps}
 use Rattle.tx_views.proofs.ReadViews.{below_next}
 use Rattle.tx_verdict.specs.declared.refutation.WriteOrder.{WriteOrder}

@@ -1,5 +1,5 @@
 -- Each view is one of those that are known.
-use Rattle.std.proofs.Common.{get_or}
+use Rattle.std.proofs.Common.{get_or, sym, ◌∙◌}
 use Rattle.std.proofs.lemmas.List.Elements.{Contains-get_or}
 use Rattle.tx_verdict.specs.Versions.{no_view}
 use Rattle.tx_verdict.proofs.lists.wrong_orders.Goals as goal
@@ -13,3 +13,8 @@ pub wrong_order-found-requires-clause-other : goal.wrong_order-found-requires-cl
 wrong_order-found-requires-clause-other c =
     c.requires.case.views (get_or c.args.case.now.views.now c.in-Some.other no_view)
     (Contains-get_or c.args.case.now.views.now c.in-Some.other no_view c.in-Some.ensures)
+
+pub wrong_order-found-requires-clause-list : goal.wrong_order-found-requires-clause-list
+wrong_order-found-requires-clause-list c =
+    c.requires.lists.holds (get_or c.args.case.now.views.now c.loop-i.i no_view).key
+    (sym c.holds_list.ensures ∙ c.if-not-holds_list.false)

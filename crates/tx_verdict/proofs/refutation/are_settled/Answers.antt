@@ -1,11 +1,9 @@
 -- One more is settled; and then the last round closes.
-use Rattle.std.proofs.Common.{◌≡◌, ℕ, ◌+◌, ◌<◌, ◌≤◌, List, [], ◌∷◌, ◌++◌, length, drop, get_or, arith, refl, sym, ap, ◌∙◌, subst}
-use Rattle.std.proofs.lemmas.Grind.{common_steps}
+use Rattle.std.proofs.Common.{◌≡◌, ◌+◌, [], ◌∷◌, drop, sym, ap, ◌∙◌}
 use Rattle.std.proofs.lemmas.List.{drop_more}
-use Rattle.std.proofs.Math.ListN.{drop_of_length-le}
 use Rattle.tx_verdict.specs.declared.refutation.Settled.{Settled}
 use Rattle.tx_verdict.specs.Refutations.{IsRefutationBy}
-use Rattle.tx_verdict.proofs.Direct.{goes_on, ends_with}
+use Rattle.tx_verdict.proofs.Direct.{goes_on}
 use Rattle.tx_verdict.proofs.refutation.are_settled.Goals as goal
 
 pub loop-i-preserved : goal.loop-i-preserved

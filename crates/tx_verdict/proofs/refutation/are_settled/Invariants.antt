@@ -1,5 +1,5 @@
 -- With those so far, the rest makes the refutation.
-use Rattle.std.proofs.Common.{ℕ, [], drop}
+use Rattle.std.proofs.Common.{[], drop}
 use Rattle.tx_verdict.specs.Refutations.{IsRefutationBy}
 use Rattle.tx_verdict.proofs.refutation.are_settled.Given as goal
 

@@ -1,7 +1,7 @@
 -- What is a refutation refuses each explanation.
-use Rattle.std.proofs.Common.{◌≡◌, List, [], subst}
+use Rattle.std.proofs.Common.{List, [], subst}
 use Rattle.tx_verdict.specs.declared.refutation.Settled.{Settled}
-use Rattle.tx_verdict.specs.Refutations.{IsRefutationBy, IsRefutation}
+use Rattle.tx_verdict.specs.Refutations.{IsRefutationBy}
 use Rattle.tx_verdict.proofs.Known.{refuted_by}
 use Rattle.tx_verdict.proofs.refutation.is_refutation.Goals as goal
 

@@ -1,8 +1,7 @@
 -- One step more.
-use Rattle.std.proofs.Common.{◌≡◌, ℕ, ◌<◌, length, get_or, arith, None}
+use Rattle.std.proofs.Common.{arith, None}
 use Rattle.std.proofs.lemmas.Grind.{common_steps}
 use Rattle.tx_views.proofs.ReadViews.{below_next}
-use Rattle.tx_verdict.specs.declared.verdict.CycleStep.{CycleStep}
 use Rattle.tx_verdict.specs.declared.verdict.EdgeKind.TheVariants.{Ww}
 use Rattle.tx_verdict.specs.Steps.{step_at}
 use Rattle.tx_verdict.specs.Refutations.{IsStepBy}

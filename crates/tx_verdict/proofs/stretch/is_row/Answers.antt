@@ -1,5 +1,5 @@
 -- One more.
-use Rattle.std.proofs.Common.{ℕ, ◌<◌, arith, slice_index}
+use Rattle.std.proofs.Common.{arith, slice_index}
 use Rattle.std.proofs.lemmas.Grind.{common_steps}
 use Rattle.tx_views.proofs.ReadViews.{below_next}
 use Rattle.tx_verdict.specs.Reasons.{HasWritten, IsBased}
