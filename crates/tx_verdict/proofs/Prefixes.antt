@@ -130,7 +130,8 @@ module _ (r : Recording) (orders : Orders) (x : Explanation) (e : Explains r ord
       ]
 
   -- two that are seen of one key have the same where both have something
-  pub agree : (k : ℕ) → HoldsList r k → (a b i : ℕ) (xs ys : List ℕ) → Sees r x k a xs → Sees r x k b ys → i < length xs → i < length ys
+  pub agree : (k : ℕ) → HoldsList r k → (a b i : ℕ) (xs ys : List ℕ) → Sees r x k a xs → Sees r x k b ys
+      → i < length xs → i < length ys
       → get_or xs i 0 ≡ get_or ys i 0
   agree k list a b i xs ys one other lt also = elim (cases_lt b a) [
     | inl later ↦ (

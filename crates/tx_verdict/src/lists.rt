@@ -211,8 +211,8 @@ fn wrong_longest(
 
 /// What is wrong with the lists that were seen: two of one key, of which neither begins with the
 /// other, a value that is there twice, or some of what one transaction put into the key without the
-/// rest. `longest` has of each key that holds a list a view of it, the longest; where it has others,
-/// less is found.
+/// rest. `longest` has of each key that holds a list a view of it, the longest; where it has
+/// others, less is found.
 ///
 /// `AllocError` where there was no room.
 pub fn wrong_lists(
