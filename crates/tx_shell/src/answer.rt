@@ -60,7 +60,10 @@ where
 {
     let alloc = rt.alloc();
     let output = Escaping::new(alloc, Erasing::new(output, asked.progress), asked.is_shown);
-    let shared = RefCell::new(BufWriter::new(alloc, output)?);
+    let Ok(writer) = BufWriter::new(alloc, output) else {
+        return Err(Broken::Memory);
+    };
+    let shared = RefCell::new(writer);
     let dropped = RefCell::new(Dropped::new(alloc));
     let copy = RefCell::new(Vec::new(alloc));
     let counted = Counted::new(input, asked.progress);
